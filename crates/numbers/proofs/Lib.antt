@@ -1,0 +1,4 @@
+pub mod Says
+pub mod Product
+pub mod Diff
+pub mod Is

@@ -1,0 +1,125 @@
+// The screen, its tiles and their numbers, and the one place that knows the closed rectangle of a tile.
+ghost use mathlib.Core.Path.{_≡_};
+ghost use Prim.Native.Nat.{_+_, _*_, _/_, _%_, _^_, _<_, _≤_};
+ghost use Rattle.numbers.specs.Says.{Says};
+ghost use Rattle.screen.specs.Screen.{Allowed, across, columns, rows, tiles, columnOf, rowOf, tileAt};
+ghost use Rattle.screen.specs.Rectangle.{rectangleAt, Meeting};
+
+// The number of a tile.
+pub struct Tile(pub u32);
+
+// The number of a block.
+pub struct Block(pub u32);
+
+// A screen of width by height pixels with tiles of 2^s by 2^s pixels.
+pub struct Screen {
+    pub width: u32,
+    pub height: u32,
+    pub s: u32,
+}
+
+// A closed rectangle in units: from left to right and from top to bottom, all four sides included.
+pub struct Rectangle {
+    pub left: i64,
+    pub right: i64,
+    pub top: i64,
+    pub bottom: i64,
+}
+
+// Columns, or rows, from start on and before end.
+pub struct Span {
+    pub start: u32,
+    pub end: u32,
+}
+
+const MOST_PIXELS: u32 = 4096;
+
+const MOST_TILES: u32 = 4096;
+
+const LEAST_S: u32 = 3;
+
+const MOST_S: u32 = 6;
+
+// How many tiles of 2^s pixels cover an extent: the quotient, rounded up.
+fn tiles_across(extent: u32, s: u32) -> u32
+    requires { ⌜ (extent ≤ 4096) × (3 ≤ s) × (s ≤ 6) ⌝ }
+    ensures { λ r. ⌜ (r ≡ across extent s) × (r ≤ 512) ⌝ }
+{
+    (extent + ((1 << s) - 1)) >> s
+}
+
+// Whether the screen is within the rules: 1 to 4,096 pixels each way, s from 3 to 6, at most 4,096 tiles.
+pub fn allowed(screen: Screen) -> bool
+    ensures { λ r. ⌜ Says r (Allowed screen) ⌝ }
+{
+    if screen.width < 1 {
+        return false;
+    }
+    if MOST_PIXELS < screen.width {
+        return false;
+    }
+    if screen.height < 1 {
+        return false;
+    }
+    if MOST_PIXELS < screen.height {
+        return false;
+    }
+    if screen.s < LEAST_S {
+        return false;
+    }
+    if MOST_S < screen.s {
+        return false;
+    }
+    if MOST_TILES < tiles_across(screen.width, screen.s) * tiles_across(screen.height, screen.s) {
+        return false;
+    }
+    true
+}
+
+// The columns of a screen.
+pub fn columns_of(screen: Screen) -> u32
+    requires { ⌜ Allowed screen ⌝ }
+    ensures { λ r. ⌜ r ≡ columns screen ⌝ }
+{
+    tiles_across(screen.width, screen.s)
+}
+
+// The rows of a screen.
+pub fn rows_of(screen: Screen) -> u32
+    requires { ⌜ Allowed screen ⌝ }
+    ensures { λ r. ⌜ r ≡ rows screen ⌝ }
+{
+    tiles_across(screen.height, screen.s)
+}
+
+// The tiles of a screen.
+pub fn tiles_of(screen: Screen) -> u32
+    requires { ⌜ Allowed screen ⌝ }
+    ensures { λ r. ⌜ r ≡ tiles screen ⌝ }
+{
+    columns_of(screen) * rows_of(screen)
+}
+
+// The column of a tile.
+pub fn column_of(screen: Screen, tile: Tile) -> u32
+    requires { ⌜ Allowed screen ⌝ }
+    ensures { λ r. ⌜ r ≡ columnOf screen (tile .0) ⌝ }
+{
+    tile.0 % columns_of(screen)
+}
+
+// The row of a tile.
+pub fn row_of(screen: Screen, tile: Tile) -> u32
+    requires { ⌜ Allowed screen ⌝ }
+    ensures { λ r. ⌜ r ≡ rowOf screen (tile .0) ⌝ }
+{
+    tile.0 / columns_of(screen)
+}
+
+// The tile in a column and a row, among `columns` columns.
+pub fn tile_at(columns: u32, column: u32, row: u32) -> Tile
+    requires { ⌜ (column < 4096) × (row < 4096) × (columns ≤ 4096) ⌝ }
+    ensures { λ r. ⌜ r .0 ≡ row * columns + column ⌝ }
+{
+    Tile(row * columns + column)
+}

@@ -99,8 +99,12 @@ abs-mag (negsuc n) h = omega arith
 pub is-arg : (w : Width) {z : ℤ} → SFits w z → Is (kept w z) z (2 ^ hbits w)
 is-arg w {z} f = record { same = toZ-ofZ {w = w} f; size = abs-mag z (f .sfits) }
 
+-- a field of a struct is read back as it is (`c .struct-told .given .0 .1`)
+pub kept-is : (w : Width) (z : ℤ) → mag z < 2 ^ hbits w → kept w z ≡ z
+kept-is w z h = toZ-ofZ {w = w} (record { sfits = h })
+
 pub is-call : (w : Width) {r z : ℤ} → mag r < 2 ^ hbits w → r ≡ z → Is (kept w r) z (2 ^ hbits w)
-is-call w {r} {z} h e = record { same = toZ-ofZ {w = w} (record { sfits = h }) ∙ e; size = abs-mag z (subst (λ (y : ℤ). mag y < 2 ^ hbits w) e h) }
+is-call w {r} {z} h e = record { same = kept-is w r h ∙ e; size = abs-mag z (subst (λ (y : ℤ). mag y < 2 ^ hbits w) e h) }
 
 -- ---- what a signed test tells
 

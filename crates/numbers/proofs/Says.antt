@@ -1,19 +1,25 @@
--- What is known where the answer of a test is.
-use mathlib.Core.Path.{_≡_, subst, sym}
-use mathlib.Core.Bool.{Bool, true, false}
+-- How answers are given, and how one follows from others.
+use mathlib.Core.Path.{_≡_, refl, subst, sym}
+use mathlib.Core.Bool.{Bool, true, false, _&&_}
 use lib.Dec.{T}
 use Rattle.numbers.specs.Says.{Says}
 
-module _ {P : Type 0} where
-  pub says-true : (r : Bool) → r ≡ true → Says r P → P
-  says-true true e h = h
-  says-true false e h = absurd (subst T (sym e) tt)
+true≢false : true ≡ false → ⊥
+true≢false e = subst T e tt
 
-  pub says-false : (r : Bool) → r ≡ false → Says r P → P → ⊥
-  says-false true e h = absurd (subst T e tt)
-  says-false false e h = h
+module _ {P : Type 0} where
+  pub says-yes : P → Says true P
+  says-yes p = record { yes = λ e. p; no = λ e. absurd (true≢false e) }
+
+  pub says-no : (P → ⊥) → Says false P
+  says-no f = record { yes = λ e. absurd (true≢false (sym e)); no = λ e. f }
 
 -- the answer to P is the answer to what is P by another name
-pub says-iff : {P Q : Type 0} (r : Bool) → (P → Q) → (Q → P) → Says r P → Says r Q
-says-iff true f g h = f h
-says-iff false f g h = λ q. h (g q)
+pub says-iff : {P Q : Type 0} {r : Bool} → (P → Q) → (Q → P) → Says r P → Says r Q
+says-iff f g h = record { yes = λ e. f (h .yes e); no = λ e q. h .no e (g q) }
+
+-- two answers joined say whether both hold
+pub says-and : {P Q : Type 0} {r s : Bool} → Says r P → Says s Q → Says (r && s) (P × Q)
+says-and {r = true} {s = true} h k = says-yes (h .yes refl, k .yes refl)
+says-and {r = true} {s = false} h k = says-no (λ x. k .no refl (x .1))
+says-and {r = false} {s} h k = says-no (λ x. h .no refl (x .0))

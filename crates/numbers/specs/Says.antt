@@ -1,7 +1,8 @@
 -- What a test's answer means.
+use mathlib.Core.Path.{_≡_}
 use mathlib.Core.Bool.{Bool, true, false}
 
 -- the answer r says exactly whether P holds
-abbrev pub Says : Bool → Type 0 → Type 0
-Says true P = P
-Says false P = P → ⊥
+pub record Says (r : Bool) (P : Type 0) : Type 0 where
+  pub yes : r ≡ true → P
+  pub no : r ≡ false → P → ⊥

@@ -35,11 +35,7 @@ pub fn unit_in_range(unit: i32) -> bool
 fn placed(vertex: Vertex) -> bool
     ensures { λ r. ⌜ Says r (Placed vertex) ⌝ }
 {
-    if unit_in_range(vertex.x) {
-        unit_in_range(vertex.y)
-    } else {
-        false
-    }
+    unit_in_range(vertex.x) & unit_in_range(vertex.y)
 }
 
 // Whether every coordinate of the shape is in range.
@@ -48,19 +44,7 @@ pub fn in_range(shape: Shape) -> bool
 {
     match shape {
         Shape::Point(a) => placed(a),
-        Shape::Line(a, b) => if placed(a) {
-            placed(b)
-        } else {
-            false
-        },
-        Shape::Triangle(a, b, c) => if placed(a) {
-            if placed(b) {
-                placed(c)
-            } else {
-                false
-            }
-        } else {
-            false
-        },
+        Shape::Line(a, b) => placed(a) & placed(b),
+        Shape::Triangle(a, b, c) => placed(a) & placed(b) & placed(c),
     }
 }

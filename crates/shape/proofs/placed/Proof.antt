@@ -1,26 +1,24 @@
+-- `shape::placed` meets its contract: the two answers, joined.
 use borrow.Author.Needs.{needs}
+use mir.Syntax.{w32}
+use Rattle.numbers.proofs.Is.{kept-is}
+use Rattle.numbers.proofs.Says.{says-and, says-iff}
 use Rattle.shape.proofs.placed.Statement.{statement}
 use Rattle.shape.proofs.placed.Tie as tie
-use Rattle.shape.proofs.placed.Reads as reads
-use Rattle.shape.proofs.placed.Lts as lts
-use Rattle.shape.proofs.unit_in_range.Reads as unit-in-range-reads
 
--- src/lib.rt:38:8
 unit-in-range-requires : tie.Need-unit-in-range-requires
 unit-in-range-requires c κs = search needs
 
--- src/lib.rt:39:9
 unit-in-range-requires-2 : tie.Need-unit-in-range-requires-2
 unit-in-range-requires-2 c κs = search needs
 
--- src/lib.rt:35:1
 returns : tie.Need-returns
-returns c = ?
-
--- src/lib.rt:35:1
-returns-2 : tie.Need-returns-2
-returns-2 c = ?
+returns c =
+    let v = c .before .before .before .before .args .vertex in
+    let x = kept-is w32 (v .x) (c .before .before .before .struct-told .given .0 .1) in
+    let y = kept-is w32 (v .y) (c .before .struct-told2 .given .1 .0 .1) in
+    says-iff (λ h. record { x = h .0; y = h .1 }) (λ h. (h .x, h .y))
+    (says-and (rw (x) at (c .before .before .unit-in-range .ensures)) (rw (y) at (c .unit-in-range2 .ensures)))
 
 pub placed-spec : {M : Type 1} → statement M
-placed-spec =
-    tie.close (tie.spec unit-in-range-requires unit-in-range-requires-2 returns returns-2)
+placed-spec = tie.close (tie.spec unit-in-range-requires unit-in-range-requires-2 returns)

@@ -1,0 +1,3 @@
+pub mod Touches
+pub mod Corner
+pub mod Edges

@@ -1,5 +1,6 @@
 -- The rectangles of a row that a shape touches stand side by side, and so do those of a column.
 use Prim.Native.Nat.{ℕ, _+_, _≤_}
+use mathlib.Core.List.{[], _∷_}
 use native.Mathlib.Omega.{arith}
 use lib.IntN.{ℤ}
 use lib.Signed.{_≤ℤ_}
@@ -34,7 +35,7 @@ module _ (shape : Shape) (p q r : Rectangle) where
   from s d h =
       touches-as-triangle shape .1
       (record {
-        weights = _;
+        weights = h .u ∷ h .v ∷ h .w ∷ [];
         mean =
             from-hits k (framed k s d) (spotted k (three shape .a) (omega arith)) (spotted k (three shape .b) (omega arith))
             (spotted k (three shape .c) (omega arith)) h;
@@ -43,7 +44,7 @@ module _ (shape : Shape) (p q r : Rectangle) where
 -- of three rectangles from top to bottom, the second reaches as far right as the first and starts as far left as the third
 pub row-has-no-gap : (shape : Shape) {l₁ r₁ l₂ r₂ l₃ r₃ top bottom : ℤ} → l₂ ≤ℤ r₂ → r₁ ≤ℤ r₂ → l₂ ≤ℤ l₃
     → Touches shape (from-to l₁ r₁ top bottom) → Touches shape (from-to l₃ r₃ top bottom) → Touches shape (from-to l₂ r₂ top bottom)
-row-has-no-gap shape {l₁} {r₁} {l₂} {r₂} {l₃} {r₃} {t} {b} wide rises starts f g =
+row-has-no-gap shape {l₁} {r₁} {l₂} {r₂} {l₃} {r₃} {top = t} {bottom = b} wide rises starts f g =
     let p : Rectangle = from-to l₁ r₁ t b in
     let q : Rectangle = from-to l₂ r₂ t b in
     let r : Rectangle = from-to l₃ r₃ t b in
@@ -58,7 +59,7 @@ row-has-no-gap shape {l₁} {r₁} {l₂} {r₂} {l₃} {r₃} {t} {b} wide rise
 
 pub column-has-no-gap : (shape : Shape) {t₁ b₁ t₂ b₂ t₃ b₃ left right : ℤ} → t₂ ≤ℤ b₂ → b₁ ≤ℤ b₂ → t₂ ≤ℤ t₃
     → Touches shape (from-to left right t₁ b₁) → Touches shape (from-to left right t₃ b₃) → Touches shape (from-to left right t₂ b₂)
-column-has-no-gap shape {t₁} {b₁} {t₂} {b₂} {t₃} {b₃} {l} {m} high rises starts f g =
+column-has-no-gap shape {t₁} {b₁} {t₂} {b₂} {t₃} {b₃} {left = l} {right = m} high rises starts f g =
     let p : Rectangle = from-to l m t₁ b₁ in
     let q : Rectangle = from-to l m t₂ b₂ in
     let r : Rectangle = from-to l m t₃ b₃ in

@@ -1,5 +1,6 @@
 -- The corner test answers exactly as touching by weights, of every kind of shape, in every winding and with any coincidence of vertices.
 use Prim.Native.Nat.{ℕ, _+_}
+use mathlib.Core.List.{[], _∷_}
 use mathlib.Core.Logic.{_↔_}
 use native.Mathlib.Omega.{arith}
 use Rattle.screen.specs.declared.Rectangle.{Rectangle}
@@ -60,7 +61,7 @@ module _ (shape : Shape) (q : Rectangle) where
         bc = λ s. h .bc (same-edge k f b c a .1 s);
         ca = λ s. h .ca (same-edge k f c a b .1 s);
       }) in
-      touches-as-triangle shape .1 (record { weights = _; mean = from-hits k f a b c p })
+      touches-as-triangle shape .1 (record { weights = p .u ∷ p .v ∷ p .w ∷ []; mean = from-hits k f a b c p })
 
 pub touching-passes-corner : {shape : Shape} {q : Rectangle} → Touches shape q → Corner shape q
 touching-passes-corner {shape} {q} = touching shape q

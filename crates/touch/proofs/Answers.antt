@@ -11,6 +11,7 @@ use Rattle.screen.specs.declared.Rectangle.{Rectangle}
 use Rattle.screen.specs.Rectangle.{Proper}
 use Rattle.shape.specs.declared.Vertex.{Vertex}
 use Rattle.shape.specs.declared.Shape.{Shape}
+use Rattle.touch.specs.declared.Bounds.{Bounds}
 use Rattle.touch.specs.Touches.{Touches}
 use Rattle.touch.specs.Corner.{three, bounds, Overlap, edgeValue, Apart, Separates, Corner}
 use Rattle.touch.specs.Corner.Apart.{above, below}
@@ -34,10 +35,10 @@ says-lt x y = record { yes = λ e. record { lt = subst T (sym e) tt }; no = λ e
 
 -- ---- the box
 
-abbrev pub overlap : Rectangle → Rectangle → Bool
+abbrev pub overlap : Bounds → Rectangle → Bool
 overlap p q = (leZ (q .left) (p .right) && leZ (p .left) (q .right)) && (leZ (q .top) (p .bottom) && leZ (p .top) (q .bottom))
 
-pub overlap-says : (p q : Rectangle) → Says (overlap p q) (Overlap p q)
+pub overlap-says : (p : Bounds) (q : Rectangle) → Says (overlap p q) (Overlap p q)
 overlap-says p q =
     says-iff
     (λ h. record { left = h .0 .0; right = h .0 .1; top = h .1 .0; bottom = h .1 .1 })

@@ -1,10 +1,14 @@
 -- The rectangles of a row that a shape touches stand side by side, and so do those of a column.
-use Prim.Native.Nat.{ℕ, _+_, _≤_}
+use Prim.Native.Nat.{ℕ, _+_, _≤_, _<_}
 use mathlib.Core.List.{[], _∷_}
 use native.Mathlib.Omega.{arith}
 use lib.IntN.{ℤ}
 use lib.Signed.{_≤ℤ_}
 use Rattle.screen.specs.declared.Rectangle.{Rectangle}
+use Rattle.screen.specs.declared.Screen.{Screen}
+use Rattle.screen.specs.Screen.{Allowed, columns, rows}
+use Rattle.screen.specs.Rectangle.{rectangleAt}
+use Rattle.screen.proofs.Laws.{near-rises, far-rises, near-far}
 use Rattle.shape.specs.declared.Vertex.{Vertex}
 use Rattle.shape.specs.declared.Shape.{Shape}
 use Rattle.touch.specs.Touches.{Touches}
@@ -71,3 +75,18 @@ column-has-no-gap shape {t₁} {b₁} {t₂} {b₂} {t₃} {b₃} {left = l} {ri
     (between-y _ _ _ (frame n q .l) (frame n q .r) (frame n q .t) (frame n q .b) (frame n p .t) (frame n r .b) (le-lifted n (Q .at) (Q .ab) .0 high)
     (widen _ _ _ (frame n r) _ (omega arith) (omega arith) (le-lifted n (Q .at) (R .at) .0 starts) (omega arith) (to shape p q r r (omega arith) g))
     (widen _ _ _ (frame n p) _ (omega arith) (omega arith) (omega arith) (le-lifted n (P .ab) (Q .ab) .0 rises) (to shape p q r p (omega arith) f)))
+
+-- ---- the tiles of a screen
+
+module _ (d : Screen) (ok : Allowed d) (shape : Shape) where
+  pub row-of-tiles-has-no-gap : (row : ℕ) {c₁ c₂ c₃ : ℕ} → c₁ ≤ c₂ → c₂ ≤ c₃ → c₃ < columns d
+      → Touches shape (rectangleAt d c₁ row) → Touches shape (rectangleAt d c₃ row) → Touches shape (rectangleAt d c₂ row)
+  row-of-tiles-has-no-gap row {c₁} {c₂} {c₃} i j l =
+      row-has-no-gap shape (near-far (d .width) (d .s) (ok .width≤) (ok .s≥) (ok .s≤) (omega arith)) (far-rises (d .width) (d .s) i)
+      (near-rises (d .width) (d .s) j)
+
+  pub column-of-tiles-has-no-gap : (column : ℕ) {r₁ r₂ r₃ : ℕ} → r₁ ≤ r₂ → r₂ ≤ r₃ → r₃ < rows d
+      → Touches shape (rectangleAt d column r₁) → Touches shape (rectangleAt d column r₃) → Touches shape (rectangleAt d column r₂)
+  column-of-tiles-has-no-gap column {r₁} {r₂} {r₃} i j l =
+      column-has-no-gap shape (near-far (d .height) (d .s) (ok .height≤) (ok .s≥) (ok .s≤) (omega arith)) (far-rises (d .height) (d .s) i)
+      (near-rises (d .height) (d .s) j)

@@ -8,3 +8,4 @@ pub mod Weights
 pub mod Theorem
 pub mod Gaps
 pub mod Answers
+pub mod Marked

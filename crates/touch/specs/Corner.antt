@@ -7,6 +7,7 @@ use Rattle.shape.specs.declared.Vertex.{Vertex}
 use Rattle.shape.specs.declared.Shape.{Shape}
 use Rattle.shape.specs.declared.Shape.the-variants.{Point, Line, Triangle}
 use Rattle.touch.specs.declared.Three.{Three}
+use Rattle.touch.specs.declared.Bounds.{Bounds}
 
 -- the vertices of a shape as those of a triangle: of a line the second stands for the third too, of a point the first for all
 abbrev pub three : Shape → Three
@@ -20,8 +21,8 @@ lesser x y = cond (leZ x y) x y
 abbrev pub greater : ℤ → ℤ → ℤ
 greater x y = cond (leZ x y) y x
 
--- the bounding box of a shape
-unfoldable pub bounds : Three → Rectangle
+-- the least and the greatest coordinates of three vertices
+unfoldable pub bounds : Three → Bounds
 bounds t =
     record {
       left = lesser (t .a .x) (lesser (t .b .x) (t .c .x));
@@ -30,8 +31,8 @@ bounds t =
       bottom = greater (t .a .y) (greater (t .b .y) (t .c .y));
     }
 
--- two closed rectangles have a point in common
-pub record Overlap (p q : Rectangle) : Type 0 where
+-- the box and the rectangle, both closed, have a point in common
+pub record Overlap (p : Bounds) (q : Rectangle) : Type 0 where
   pub left : q .left ≤ℤ p .right
   pub right : p .left ≤ℤ q .right
   pub top : q .top ≤ℤ p .bottom

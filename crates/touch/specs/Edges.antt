@@ -71,7 +71,7 @@ pub record Clear (e : RowEdges) (left right : ℤ) : Type 0 where
 -- a side of a rectangle on the screen
 pub record OnScreen (z : ℤ) : Type 0 where
   pub low : pos 0 ≤ℤ z
-  pub high : z ≤ℤ pos 131072
+  pub high : z ≤ℤ pos 524288
 
 -- a difference of two units
 pub record InGap (z : ℤ) : Type 0 where
@@ -80,8 +80,8 @@ pub record InGap (z : ℤ) : Type 0 where
 
 -- a product of a difference and the way from a vertex to a side
 pub record InProduct (z : ℤ) : Type 0 where
-  pub low : negsuc 274877906943 ≤ℤ z
-  pub high : z ≤ℤ pos 274877906944
+  pub low : negsuc 549755813887 ≤ℤ z
+  pub high : z ≤ℤ pos 549755813888
 
 pub record EdgeRange (e : Edge) : Type 0 where
   pub x : InUnits (e .x)

@@ -18,6 +18,14 @@ pub struct Three {
     pub c: Vertex,
 }
 
+// A bounding box: from left to right and from top to bottom, all four sides included.
+pub struct Bounds {
+    pub left: i32,
+    pub right: i32,
+    pub top: i32,
+    pub bottom: i32,
+}
+
 // An edge: where it starts, the differences to its end, and the edge value of the third vertex.
 pub struct Edge {
     pub x: i64,
@@ -61,38 +69,41 @@ pub fn three_of(shape: Shape) -> Three
     }
 }
 
-fn least(x: i64, y: i64) -> i64
+// The lesser of two coordinates.
+fn least(x: i32, y: i32) -> i32
     ensures { λ r. ⌜ r ≡ lesser x y ⌝ }
 {
     if x <= y { x } else { y }
 }
 
-fn most(x: i64, y: i64) -> i64
+// The greater of two coordinates.
+fn most(x: i32, y: i32) -> i32
     ensures { λ r. ⌜ r ≡ greater x y ⌝ }
 {
     if x <= y { y } else { x }
 }
 
 // The bounding box of three vertices.
-pub fn bounds_of(vertices: Three) -> Rectangle
+pub fn bounds_of(vertices: Three) -> Bounds
     ensures { λ r. ⌜ r ≡ bounds vertices ⌝ }
 {
     let a = vertices.a;
     let b = vertices.b;
     let c = vertices.c;
-    Rectangle {
-        left: least(a.x as i64, least(b.x as i64, c.x as i64)),
-        right: most(a.x as i64, most(b.x as i64, c.x as i64)),
-        top: least(a.y as i64, least(b.y as i64, c.y as i64)),
-        bottom: most(a.y as i64, most(b.y as i64, c.y as i64)),
+    Bounds {
+        left: least(a.x, least(b.x, c.x)),
+        right: most(a.x, most(b.x, c.x)),
+        top: least(a.y, least(b.y, c.y)),
+        bottom: most(a.y, most(b.y, c.y)),
     }
 }
 
-// Whether two closed rectangles have a point in common.
-fn overlap(around: Rectangle, rectangle: Rectangle) -> bool
+// Whether the box and the rectangle have a point in common.
+fn overlap(around: Bounds, rectangle: Rectangle) -> bool
     ensures { λ r. ⌜ Says r (Overlap around rectangle) ⌝ }
 {
-    (rectangle.left <= around.right) & (around.left <= rectangle.right) & (rectangle.top <= around.bottom) & (around.top <= rectangle.bottom)
+    ((rectangle.left <= around.right as i64) & (around.left as i64 <= rectangle.right))
+        & ((rectangle.top <= around.bottom as i64) & (around.top as i64 <= rectangle.bottom))
 }
 
 // Whether the rectangle meets the shape's bounding box.

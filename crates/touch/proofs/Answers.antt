@@ -1,10 +1,12 @@
 -- Answers that are put together from others, and the corner test as a function to Bool, which answers as `Touches` does.
-use mathlib.Core.Path.{_≡_, refl, sym, subst}
+use Prim.Native.Nat.{ℕ}
+use mathlib.Core.Path.{_≡_, refl, sym, subst, _∙_}
 use mathlib.Core.Bool.{Bool, true, false, not, _&&_, _||_}
 use mathlib.Core.Logic.{_⊎_, inl, inr, ⊎-elim}
 use lib.Dec.{T}
 use lib.IntN.{ℤ, pos}
 use lib.Signed.{_≤ℤ_, _<ℤ_, leZ, ltZ}
+use Rattle.numbers.specs.Is.{Is}
 use Rattle.numbers.specs.Says.{Says}
 use Rattle.numbers.proofs.Says.{says-yes, says-no, says-iff, says-and}
 use Rattle.screen.specs.declared.Rectangle.{Rectangle}
@@ -16,6 +18,13 @@ use Rattle.touch.specs.Touches.{Touches}
 use Rattle.touch.specs.Corner.{three, bounds, Overlap, edgeValue, Apart, Separates, Corner}
 use Rattle.touch.specs.Corner.Apart.{above, below}
 use Rattle.touch.proofs.Theorem.{corner-is-touching}
+
+pub says-same : {P : Type 0} {r s : Bool} → r ≡ s → Says s P → Says r P
+says-same {P} e h = subst (λ (t : Bool). Says t P) (sym e) h
+
+-- a test of two numbers as the machine reads them is the test of the two
+pub same-test : {v z u y : ℤ} {M N : ℕ} → Is v z M → Is u y N → {t : Bool} → leZ v u ≡ t → leZ z y ≡ t
+same-test p q e = (λ i. leZ (sym (p .same) i) (sym (q .same) i)) ∙ e
 
 -- one of two answers says whether either holds
 says-or : {P Q : Type 0} {r s : Bool} → Says r P → Says s Q → Says (r || s) (P ⊎ Q)

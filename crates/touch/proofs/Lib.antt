@@ -9,3 +9,4 @@ pub mod Theorem
 pub mod Gaps
 pub mod Answers
 pub mod Marked
+pub mod Sizes

@@ -9,6 +9,7 @@ use Rattle.shape.specs.declared.Vertex.{Vertex}
 use Rattle.shape.specs.declared.Shape.{Shape}
 use Rattle.touch.specs.Touches.{Touches}
 use Rattle.touch.specs.Corner.{three, Box, Corner}
+use Rattle.touch.specs.Edges.{edgesOf, rowEdges, Clear}
 use Rattle.touch.proofs.Bias.{Spotted, Framed, depth, depthOf, spot, frame, spotted, framed, le-lifted, same-edge, same-box, to-hits, from-hits}
 use Rattle.touch.proofs.Passing.{hitting-passes}
 use Rattle.touch.proofs.Touching.{passing-hits}
@@ -72,3 +73,10 @@ touching-meets-box h = touching-passes-corner h .box
 
 pub corner-is-touching : {shape : Shape} {q : Rectangle} → Proper q → Corner shape q ↔ Touches shape q
 corner-is-touching {shape} {q} ok = (passing shape q ok, touching shape q)
+
+-- where the box is met, what is computed of the edges in the rectangle's row decides
+pub clear-is-touching : (shape : Shape) {q : Rectangle} → Proper q → Box shape q
+    → Clear (rowEdges (edgesOf (three shape)) (q .top) (q .bottom)) (q .left) (q .right) ↔ Touches shape q
+clear-is-touching shape {q} ok box =
+    let e = corner-is-touching {shape = shape} ok in
+    (λ h. e .0 (record { box = box; ab = h .ab; bc = h .bc; ca = h .ca }), λ t. let h = e .1 t in record { ab = h .ab; bc = h .bc; ca = h .ca })

@@ -1,16 +1,14 @@
 -- What the corner test computes once for a shape, and once for a row of rectangles.
-use lib.IntN.{ℤ, pos, negsuc, _-ℤ_, _*ℤ_}
-use lib.Signed.{_≤ℤ_}
+use Prim.Native.Nat.{ℕ, _≤_}
+use lib.IntN.{ℤ, natAbs, _-ℤ_, _*ℤ_}
 use Rattle.shape.specs.declared.Vertex.{Vertex}
-use Rattle.shape.specs.declared.Shape.{Shape}
-use Rattle.shape.specs.declared.Shape.the-variants.{Triangle}
-use Rattle.shape.specs.Shape.{InUnits, Placed}
+use Rattle.shape.specs.Shape.{Placed}
 use Rattle.touch.specs.declared.Three.{Three}
 use Rattle.touch.specs.declared.Edge.{Edge}
 use Rattle.touch.specs.declared.Edges.{Edges}
 use Rattle.touch.specs.declared.RowEdge.{RowEdge}
 use Rattle.touch.specs.declared.RowEdges.{RowEdges}
-use Rattle.touch.specs.Corner.{three, edgeValue, Apart}
+use Rattle.touch.specs.Corner.{edgeValue, Apart}
 
 pub record AllPlaced (t : Three) : Type 0 where
   pub a : Placed (t .a)
@@ -66,28 +64,16 @@ pub record Clear (e : RowEdges) (left right : ℤ) : Type 0 where
   pub bc : ApartAt (e .bc) left right → ⊥
   pub ca : ApartAt (e .ca) left right → ⊥
 
--- ---- ranges: what the numbers of an edge stay within
+-- ---- how large the numbers of an edge are
 
--- a side of a rectangle on the screen
-pub record OnScreen (z : ℤ) : Type 0 where
-  pub low : pos 0 ≤ℤ z
-  pub high : z ≤ℤ pos 524288
-
--- a difference of two units
-pub record InGap (z : ℤ) : Type 0 where
-  pub low : negsuc 524287 ≤ℤ z
-  pub high : z ≤ℤ pos 524288
-
--- a product of a difference and the way from a vertex to a side
-pub record InProduct (z : ℤ) : Type 0 where
-  pub low : negsuc 549755813887 ≤ℤ z
-  pub high : z ≤ℤ pos 549755813888
+pub record Within (size : ℕ) (z : ℤ) : Type 0 where
+  pub abs : natAbs z ≤ size
 
 pub record EdgeRange (e : Edge) : Type 0 where
-  pub x : InUnits (e .x)
-  pub y : InUnits (e .y)
-  pub dx : InGap (e .dx)
-  pub dy : InGap (e .dy)
+  pub x : Within 262144 (e .x)
+  pub y : Within 262144 (e .y)
+  pub dx : Within 524288 (e .dx)
+  pub dy : Within 524288 (e .dy)
 
 pub record EdgesRange (e : Edges) : Type 0 where
   pub ab : EdgeRange (e .ab)
@@ -95,10 +81,10 @@ pub record EdgesRange (e : Edges) : Type 0 where
   pub ca : EdgeRange (e .ca)
 
 pub record RowEdgeRange (e : RowEdge) : Type 0 where
-  pub x : InUnits (e .x)
-  pub dy : InGap (e .dy)
-  pub upper : InProduct (e .upper)
-  pub lower : InProduct (e .lower)
+  pub x : Within 262144 (e .x)
+  pub dy : Within 524288 (e .dy)
+  pub upper : Within 412316860416 (e .upper)
+  pub lower : Within 412316860416 (e .lower)
 
 pub record RowEdgesRange (e : RowEdges) : Type 0 where
   pub ab : RowEdgeRange (e .ab)

@@ -6,7 +6,7 @@ ghost use Rattle.screen.specs.Rectangle.{Proper};
 ghost use Rattle.shape.specs.Shape.{InRange, Placed};
 ghost use Rattle.touch.specs.Touches.{Touches};
 ghost use Rattle.touch.specs.Corner.{three, lesser, greater, bounds, Overlap, Box};
-ghost use Rattle.touch.specs.Edges.{AllPlaced, edgeOf, edgesOf, rowEdge, rowEdges, ApartAt, Clear, OnScreen, EdgeRange, EdgesRange, RowEdgeRange, RowEdgesRange};
+ghost use Rattle.touch.specs.Edges.{AllPlaced, edgeOf, edgesOf, rowEdge, rowEdges, ApartAt, Clear, Within, EdgeRange, EdgesRange, RowEdgeRange, RowEdgesRange};
 use screen::Rectangle;
 use shape::Shape;
 use shape::Vertex;
@@ -123,7 +123,13 @@ fn edge_of(a: Vertex, b: Vertex, c: Vertex) -> Edge
     let dx = b.x as i64 - x;
     let dy = b.y as i64 - y;
     let third = (c.x as i64 - x) * dy - (c.y as i64 - y) * dx;
-    Edge { x: x, y: y, dx: dx, dy: dy, third: third }
+    Edge {
+        x: x,
+        y: y,
+        dx: dx,
+        dy: dy,
+        third: third,
+    }
 }
 
 // The three edges, each with the edge value of the vertex that it lacks.
@@ -134,12 +140,16 @@ pub fn edges_of(vertices: Three) -> Edges
     let a = vertices.a;
     let b = vertices.b;
     let c = vertices.c;
-    Edges { ab: edge_of(a, b, c), bc: edge_of(b, c, a), ca: edge_of(c, a, b) }
+    Edges {
+        ab: edge_of(a, b, c),
+        bc: edge_of(b, c, a),
+        ca: edge_of(c, a, b),
+    }
 }
 
 // An edge, in the row from top to bottom.
 fn row_edge(edge: Edge, top: i64, bottom: i64) -> RowEdge
-    requires { ⌜ (EdgeRange edge) × (OnScreen top) × (OnScreen bottom) ⌝ }
+    requires { ⌜ (EdgeRange edge) × (Within 524288 top) × (Within 524288 bottom) ⌝ }
     ensures { λ r. ⌜ r ≡ rowEdge edge top bottom ⌝ }
 {
     RowEdge {
@@ -153,7 +163,7 @@ fn row_edge(edge: Edge, top: i64, bottom: i64) -> RowEdge
 
 // The three edges, in the row from top to bottom.
 pub fn row_edges(edges: Edges, top: i64, bottom: i64) -> RowEdges
-    requires { ⌜ (EdgesRange edges) × (OnScreen top) × (OnScreen bottom) ⌝ }
+    requires { ⌜ (EdgesRange edges) × (Within 524288 top) × (Within 524288 bottom) ⌝ }
     ensures { λ r. ⌜ r ≡ rowEdges edges top bottom ⌝ }
 {
     RowEdges {
@@ -165,7 +175,7 @@ pub fn row_edges(edges: Edges, top: i64, bottom: i64) -> RowEdges
 
 // Whether the four corners, in the row from left to right, lie strictly on a side of the edge on which the third vertex does not lie.
 fn apart_at(edge: RowEdge, left: i64, right: i64) -> bool
-    requires { ⌜ (RowEdgeRange edge) × (OnScreen left) × (OnScreen right) ⌝ }
+    requires { ⌜ (RowEdgeRange edge) × (Within 524288 left) × (Within 524288 right) ⌝ }
     ensures { λ r. ⌜ Says r (ApartAt edge left right) ⌝ }
 {
     let near = (left - edge.x) * edge.dy;
@@ -174,12 +184,13 @@ fn apart_at(edge: RowEdge, left: i64, right: i64) -> bool
     let q = far - edge.upper;
     let r = near - edge.lower;
     let s = far - edge.lower;
-    ((edge.third <= 0) & (((0 < p) & (0 < q)) & ((0 < r) & (0 < s)))) | ((0 <= edge.third) & (((p < 0) & (q < 0)) & ((r < 0) & (s < 0))))
+    ((edge.third <= 0) & (((0 < p) & (0 < q)) & ((0 < r) & (0 < s))))
+        | ((0 <= edge.third) & (((p < 0) & (q < 0)) & ((r < 0) & (s < 0))))
 }
 
 // Whether no edge separates the shape from what lies in the row from left to right.
 pub fn clear(edges: RowEdges, left: i64, right: i64) -> bool
-    requires { ⌜ (RowEdgesRange edges) × (OnScreen left) × (OnScreen right) ⌝ }
+    requires { ⌜ (RowEdgesRange edges) × (Within 524288 left) × (Within 524288 right) ⌝ }
     ensures { λ r. ⌜ Says r (Clear edges left right) ⌝ }
 {
     if apart_at(edges.ab, left, right) {

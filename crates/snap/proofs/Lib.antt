@@ -1,3 +1,6 @@
 pub mod Sizes
 pub mod OneNearest
 pub mod Unit
+pub mod Product
+pub mod Divided
+pub mod Bits

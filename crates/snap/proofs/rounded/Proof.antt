@@ -1,58 +1,83 @@
+-- `snap::rounded` meets its contract: by the exponent, the laws of the three cases of bits; and what the code makes of the size, by its sign.
 use borrow.Author.Needs.{needs}
+use native.Mathlib.Omega.{arith}
+use mathlib.Core.Path.{_≡_, sym, ap, _∙_}
+use mathlib.Core.Bool.{Bool, true, false}
+use Prim.Native.Nat.{ℕ, _+_, _-_, _^_, _≤_}
+use borrow.Author.Tests.{le-leb, lt-leb}
+use lib.IntN.{ℤ, pos, _-ℤ_, +ℤ-idl}
+use mir.Syntax.{w32}
+use mir.Val.{toZ}
+use Rattle.numbers.specs.Is.{Is, kept}
+use Rattle.numbers.proofs.Is.{is-lit, is-pos, is-sub, is-kept, is-fits}
+use Rattle.snap.specs.Unit.{signed, accept, roundedOf}
+use Rattle.snap.proofs.Sizes.{closest-at-most}
+use Rattle.snap.proofs.Bits.{negative, exponent, digits, small-rounded, large-rounded, middle-rounded}
 use Rattle.snap.proofs.rounded.Statement.{statement}
 use Rattle.snap.proofs.rounded.Tie as tie
-use Rattle.snap.proofs.rounded.Reads as reads
-use Rattle.snap.proofs.rounded.Lts as lts
-use Rattle.snap.proofs.accepted.Reads as accepted-reads
-use Rattle.snap.proofs.nearest.Reads as nearest-reads
 
--- src/lib.rt:106:16
 float-to-bits-bits : tie.Need-float-to-bits-bits
 float-to-bits-bits c = search needs
 
--- src/lib.rt:110:9
 returns : tie.Need-returns
-returns c = ?
+returns c = sym (small-rounded (c .before .args .units) (c .before .good .0 .1) (c .if1 .taken))
 
--- src/lib.rt:113:9
 returns-2 : tie.Need-returns-2
-returns-2 c = ?
+returns-2 c =
+    let start = c .before .before in
+    sym (large-rounded (start .args .units) (start .good .0 .1) (start .pre) (c .if2 .taken))
 
--- src/lib.rt:115:24
 add-nearest : tie.Need-add-nearest
 add-nearest c = search needs
 
--- src/lib.rt:115:42
 sub-nearest : tie.Need-sub-nearest
 sub-nearest c = search needs
 
--- src/lib.rt:115:9
 nearest-requires : tie.Need-nearest-requires
 nearest-requires c κs = search needs
 
--- src/lib.rt:116:16
-cast-unit : tie.Need-cast-unit
-cast-unit c = ?
+-- the size as a signed number, and below zero
+size-le : (c : tie.After-nearest) → c .nearest .result ≤ 16777216
+size-le c =
+    let w = c .before .before .before .args .units in
+    omega (arith, c .nearest .ensures, closest-at-most (8388608 + digits w) (2 ^ (150 - exponent w)))
 
--- src/lib.rt:118:9
+above : {u : ℕ} → u ≤ 16777216 → Is (toZ w32 u) (pos u) 16777216
+above h = is-kept w32 tt (is-pos h)
+
+below : {u : ℕ} → u ≤ 16777216 → Is (pos 0 -ℤ toZ w32 u) (pos 0 -ℤ pos u) 16777216
+below h = is-sub (is-lit 0) (above h)
+
+-- the answer by the sign
+by-sign : (c : tie.After-nearest) (s : Bool) → negative (c .before .before .before .args .units) ≡ s → roundedOf (c .before .before .before .args .units) ≡ accept (signed s (c .nearest .result))
+by-sign c s e =
+    let start = c .before .before .before in
+    middle-rounded (start .args .units) (start .good .0 .1) s e (c .before .before .if1 .left) (c .before .if2 .left)
+    ∙ ap (λ (u : ℕ). accept (signed s u)) (sym (c .nearest .ensures))
+
+cast-unit : tie.Need-cast-unit
+cast-unit c = is-fits tt (is-pos (size-le c))
+
 accepted-requires : tie.Need-accepted-requires
 accepted-requires c κs = search needs
 
--- src/lib.rt:118:9
 returns-3 : tie.Need-returns-3
-returns-3 c = ?
+returns-3 c =
+    let at = c .before .before in
+    c .accepted .ensures ∙ ap accept (above (size-le at) .same) ∙ sym (by-sign at false (lt-leb _ _ (c .before .if3 .taken)))
 
--- src/lib.rt:120:17
 sub-below : tie.Need-sub-below
-sub-below c = ?
+sub-below c = is-fits tt (below (size-le (c .before)))
 
--- src/lib.rt:121:5
 accepted-requires-2 : tie.Need-accepted-requires-2
 accepted-requires-2 c κs = search needs
 
--- src/lib.rt:102:1
 returns-4 : tie.Need-returns-4
-returns-4 c = ?
+returns-4 c =
+    let at = c .before .before in
+    c .accepted2 .ensures
+    ∙ ap accept (is-kept w32 tt (below (size-le at)) .same ∙ +ℤ-idl (signed true (at .nearest .result)))
+    ∙ sym (by-sign at true (le-leb _ _ (c .before .if3 .left)))
 
 pub rounded-spec : {M : Type 1} → statement M
 rounded-spec =

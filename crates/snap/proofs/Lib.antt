@@ -4,3 +4,5 @@ pub mod Unit
 pub mod Product
 pub mod Divided
 pub mod Bits
+pub mod Joins
+pub mod Shapes

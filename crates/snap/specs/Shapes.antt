@@ -1,5 +1,7 @@
 -- A vertex and a shape in units, by cases on the answers for the coordinates in order: the first refusal decides.
 use Prim.Native.Nat.{ℕ}
+use mathlib.Core.List.{List, [], _∷_}
+use lib.Ieee.{Float}
 use Rattle.shape.specs.declared.Shape.{Shape}
 use Rattle.snap.specs.Unit.{unitOf}
 use Rattle.snap.specs.declared.Snapped.{Snapped}
@@ -8,7 +10,8 @@ use Rattle.snap.specs.declared.PixelShape.{PixelShape}
 use Rattle.snap.specs.declared.SnappedVertex.{SnappedVertex}
 use Rattle.snap.specs.declared.SnappedShape.{SnappedShape}
 
--- x before y
+-- ---- a vertex: x before y
+
 abbrev pub vertexBy : Snapped → Snapped → SnappedVertex
 vertexBy (Snapped.Refused n) y = SnappedVertex.Refused n
 vertexBy (Snapped.Unit a) (Snapped.Refused n) = SnappedVertex.Refused n
@@ -17,10 +20,7 @@ vertexBy (Snapped.Unit a) (Snapped.Unit b) = SnappedVertex.Whole (record { x = a
 abbrev pub vertexOf : PixelVertex → SnappedVertex
 vertexOf v = vertexBy (unitOf (v .x)) (unitOf (v .y))
 
--- the number of an answer: 0 where it is a vertex
-abbrev pub vertexNumberOf : SnappedVertex → ℕ
-vertexNumberOf (SnappedVertex.Whole v) = 0
-vertexNumberOf (SnappedVertex.Refused n) = n
+-- ---- a shape: vertices in order
 
 abbrev pub pointBy : SnappedVertex → SnappedShape
 pointBy (SnappedVertex.Refused n) = SnappedShape.Refused n
@@ -50,3 +50,30 @@ abbrev pub shapeOf : PixelShape → SnappedShape
 shapeOf (PixelShape.Point a) = pointOf a
 shapeOf (PixelShape.Line a b) = lineOf a b
 shapeOf (PixelShape.Triangle a b c) = triangleOf a b c
+
+-- ---- the number of an answer: 0 where nothing is refused
+
+abbrev pub vertexNumberOf : SnappedVertex → ℕ
+vertexNumberOf (SnappedVertex.Whole v) = 0
+vertexNumberOf (SnappedVertex.Refused n) = n
+
+abbrev pub shapeNumberOf : SnappedShape → ℕ
+shapeNumberOf (SnappedShape.Whole s) = 0
+shapeNumberOf (SnappedShape.Refused n) = n
+
+-- ---- the same number, by the coordinates as one list
+
+abbrev pub coordinates : PixelShape → List Float
+coordinates (PixelShape.Point a) = a .x ∷ a .y ∷ []
+coordinates (PixelShape.Line a b) = a .x ∷ a .y ∷ b .x ∷ b .y ∷ []
+coordinates (PixelShape.Triangle a b c) = a .x ∷ a .y ∷ b .x ∷ b .y ∷ c .x ∷ c .y ∷ []
+
+-- the number of x where it is a refusal, and else n
+abbrev pub refusedOr : ℕ → Snapped → ℕ
+refusedOr n (Snapped.Refused k) = k
+refusedOr n (Snapped.Unit z) = n
+
+-- the number of the first refusal, and 0 where there is none
+abbrev pub firstRefusal : List Float → ℕ
+firstRefusal [] = 0
+firstRefusal (v ∷ vs) = refusedOr (firstRefusal vs) (unitOf v)

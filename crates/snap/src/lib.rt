@@ -9,7 +9,7 @@ ghost use lib.Ieee.Nearest.{closest};
 ghost use lib.Ieee.Scale.{finite as isFinite};
 ghost use Rattle.snap.specs.Scaled.{Scaled};
 ghost use Rattle.snap.specs.Unit.{numberOf, accept, roundedOf, unitOf};
-ghost use Rattle.snap.specs.Shapes.{vertexNumberOf, vertexOf, pointOf, lineOf, triangleOf, shapeOf};
+ghost use Rattle.snap.specs.Shapes.{vertexNumberOf, shapeNumberOf, vertexOf, pointOf, lineOf, triangleOf, shapeOf};
 use shape::Shape;
 use shape::Vertex;
 
@@ -32,7 +32,7 @@ pub enum PixelShape {
 }
 
 // A vertex in units, or the number of the first refusal, x before y.
-pub enum SnappedVertex {
+enum SnappedVertex {
     Whole(Vertex),
     Refused(u32),
 }
@@ -143,7 +143,7 @@ pub fn number(answer: Snapped) -> u32
 }
 
 // A vertex in units, x before y.
-pub fn snap_vertex(vertex: PixelVertex) -> SnappedVertex
+fn snap_vertex(vertex: PixelVertex) -> SnappedVertex
     ensures { λ r. ⌜ r ≡ vertexOf vertex ⌝ }
 {
     let first = snap(vertex.x);
@@ -158,7 +158,7 @@ pub fn snap_vertex(vertex: PixelVertex) -> SnappedVertex
 }
 
 // The number of an answer for a vertex.
-pub fn vertex_number(answer: SnappedVertex) -> u32
+fn vertex_number(answer: SnappedVertex) -> u32
     ensures { λ r. ⌜ r ≡ vertexNumberOf answer ⌝ }
 {
     match answer {
@@ -217,5 +217,15 @@ pub fn snap_shape(shape: PixelShape) -> SnappedShape
         PixelShape::Point(a) => snap_point(a),
         PixelShape::Line(a, b) => snap_line(a, b),
         PixelShape::Triangle(a, b, c) => snap_triangle(a, b, c),
+    }
+}
+
+// The number of an answer for a shape.
+pub fn shape_number(answer: SnappedShape) -> u32
+    ensures { λ r. ⌜ r ≡ shapeNumberOf answer ⌝ }
+{
+    match answer {
+        SnappedShape::Whole(_) => 0,
+        SnappedShape::Refused(n) => n,
     }
 }

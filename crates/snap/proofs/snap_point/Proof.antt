@@ -1,34 +1,30 @@
+-- `snap::snap_point` meets its contract: the answer for the vertex decides.
 use borrow.Author.Needs.{needs}
+use Rattle.snap.proofs.Joins.{point-refused, point-whole}
 use Rattle.snap.proofs.snap_point.Statement.{statement}
 use Rattle.snap.proofs.snap_point.Tie as tie
-use Rattle.snap.proofs.snap_point.Reads as reads
-use Rattle.snap.proofs.snap_point.Lts as lts
-use Rattle.snap.proofs.snap_vertex.Reads as snap-vertex-reads
-use Rattle.snap.proofs.vertex_number.Reads as vertex-number-reads
 
--- src/lib.rt:173:9
 snap-vertex-requires : tie.Need-snap-vertex-requires
 snap-vertex-requires c κs = search needs
 
--- src/lib.rt:174:30
 enum-known-first : tie.Need-enum-known-first
 enum-known-first c = search needs
 
--- src/lib.rt:175:38
 enum-told : tie.Need-enum-told
 enum-told c = search needs
 
--- src/lib.rt:175:38
 vertex-number-requires : tie.Need-vertex-number-requires
 vertex-number-requires c κs = search needs
 
--- src/lib.rt:175:9
 returns : tie.Need-returns
-returns c = ?
+returns c =
+    let at-a = c .before .before .before in
+    point-refused (at-a .before .args .a) (at-a .snap-vertex .ensures) (c .before .enum-told .given .1) (c .vertex-number .ensures)
 
--- src/lib.rt:170:1
 returns-2 : tie.Need-returns-2
-returns-2 c = ?
+returns-2 c =
+    let at-a = c .before .before .before in
+    point-whole (at-a .before .args .a) (at-a .snap-vertex .ensures) (c .before .first .given .1)
 
 pub snap-point-spec : {M : Type 1} → statement M
 snap-point-spec =

@@ -1,6 +1,6 @@
 -- The laws of `Nearest`: every fraction has exactly one nearest whole number, which is `closest` of its size with its sign.
 use mathlib.Core.Path.{_≡_, refl, sym, ap, _∙_, subst}
-use Prim.Native.Nat.{ℕ, zero, suc, _+_, _-_, _*_, _%_, _≤_, _<_}
+use Prim.Native.Nat.{ℕ, zero, suc, _+_, _-_, _*_, _%_, _<_}
 use native.Mathlib.Omega.{arith}
 use mathlib.Core.Bool.{Bool, true, false}
 use lib.Dec.{leb}
@@ -40,10 +40,10 @@ module _ (s : Bool) (n : ℕ) {d u : ℕ} where
       go true e = p .tie-over (omega (arith, away-is s n d u, leb-true n (u * d) e))
       go false e = p .tie-under (omega (arith, away-is s n d u, leb-false n (u * d) e))
 
-  pub with-sign : NearestSize n d u → Nearest (signed s n) d (signed s u)
+  with-sign : NearestSize n d u → Nearest (signed s n) d (signed s u)
   with-sign p = record { near = omega (arith, away-is s n d u); even = λ t. ap (λ (x : ℕ). x % 2) (abs-signed s u) ∙ tie p t }
 
-  pub without-sign : Nearest (signed s n) d (signed s u) → NearestSize n d u
+  without-sign : Nearest (signed s n) d (signed s u) → NearestSize n d u
   without-sign p =
       let even : 2 * away (signed s n) d (signed s u) ≡ d → u % 2 ≡ 0 = λ t. ap (λ (x : ℕ). x % 2) (sym (abs-signed s u)) ∙ p .even t in
       let h = p .near in

@@ -28,7 +28,7 @@ reaches z h = omega arith
 one-less : (z : ℕ) → 278 ≤ z → 23 + (z - 24) < z
 one-less z h = omega arith
 
-pub overflows : (s : Bool) (num den : ℕ) → 0 < den → 2 ^ 128 * den ≤ num → round binary32 s num den ≡ inf s
+overflows : (s : Bool) (num den : ℕ) → 0 < den → 2 ^ 128 * den ≤ num → round binary32 s num den ≡ inf s
 unfolding units
 overflows s num den D h =
     let n = num * 2 ^ 149 in

@@ -20,7 +20,7 @@ use Rattle.snap.proofs.Unit.{in-units-test}
 
 -- ---- a value in range, or one of the two numbers
 
-abbrev SixOrSeven : ℕ → Type 0
+abbrev pub SixOrSeven : ℕ → Type 0
 SixOrSeven n = (n ≡ 6) ⊎ (n ≡ 7)
 
 abbrev Allowed : Snapped → Type 0

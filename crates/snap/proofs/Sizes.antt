@@ -1,7 +1,7 @@
 -- Rounding a fraction of naturals: at most one number is nearest to it, a half going to the even one, and the kit's `closest` is that number.
 use mathlib.Core.Path.{_≡_, refl, subst}
 use Prim.Native.Nat.{ℕ, zero, suc, _+_, _*_, _/_, _%_, _≤_, _<_, compare, Ordering, Ordering·lt, Ordering·eq, Ordering·gt}
-use native.Mathlib.Nat.{le-trans, le-suc, mul-le-mul-right, eq-of-mul-eq-mul-right, div-add-mod', div-le-self, le-div-iff-mul-le, mod-lt, lt-of-not-le, le-antisymm, le-of-suc-le-suc}
+use native.Mathlib.Nat.{le-trans, mul-le-mul-right, eq-of-mul-eq-mul-right, div-add-mod', div-le-self, le-div-iff-mul-le, mod-lt, lt-of-not-le, le-antisymm, le-of-suc-le-suc}
 use native.Mathlib.Omega.{arith}
 use mathlib.Core.Bool.{not}
 use lib.Dec.{T, isLe, isEq, eqb, leb→le, nleb→lt, eqb→eq, eqb-refl}

@@ -69,9 +69,6 @@ one-unit (inf s) z y p q = absurd p
 one-unit (fin s m e) z y p q =
     nearest-closest s (16 * (m * up e)) (down-pos e) p ∙ sym (nearest-closest s (16 * (m * up e)) (down-pos e) q)
 
-pub at-most-half-a-unit : (s : Bool) (m : ℕ) (e : ℤ) (z : ℤ) → HasUnit (fin s m e) z → 2 * away (signed s (16 * (m * up e))) (down e) z ≤ down e
-at-most-half-a-unit s m e z p = p .near
-
 -- ---- exactly one right answer
 
 unit-answer : (v : Float) (z : ℤ) → HasUnit v z → unitOf v ≡ accept z
@@ -106,3 +103,23 @@ right-is-unit-of v r h = go (finite v) refl
     go false e =
         let t : T (not (finite v)) = subst (λ (b : Bool). T (not b)) (sym e) tt in
         h .not-finite t ∙ sym (not-finite-answer v t)
+
+-- ---- a unit that is answered is the coordinate's, at most a half away from sixteen times it
+
+accepted-is : (y z : ℤ) → accept y ≡ Snapped.Unit z → y ≡ z
+accepted-is y z = go (inUnits y)
+  where
+    go : (b : Bool) → cond b (Snapped.Unit y) (Refused 7) ≡ Snapped.Unit z → y ≡ z
+    go true e = cc
+    go false e = cc
+
+pub answered-is-unit : (v : Float) {z : ℤ} → unitOf v ≡ Snapped.Unit z → HasUnit v z
+unfolding unitOf
+answered-is-unit nan e = let i : _≡_ {A = ℕ} 0 1 = cc in absurd (omega arith)
+answered-is-unit (inf s) e = let i : _≡_ {A = ℕ} 0 1 = cc in absurd (omega arith)
+answered-is-unit (fin s m k) {z} e =
+    let n = 16 * (m * up k) in
+    subst (HasUnit (fin s m k)) (accepted-is (signed s (closest n (down k))) z e) (closest-nearest s n (down-pos k))
+
+pub at-most-half-a-unit : (s : Bool) (m : ℕ) (e : ℤ) {z : ℤ} → unitOf (fin s m e) ≡ Snapped.Unit z → 2 * away (signed s (16 * (m * up e))) (down e) z ≤ down e
+at-most-half-a-unit s m e h = answered-is-unit (fin s m e) h .near

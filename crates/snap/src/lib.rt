@@ -2,7 +2,7 @@
 // sixteen times it, a half going to the even one. Every f32 is answered: no public function asks anything.
 ghost use mathlib.Core.Path.{_≡_};
 ghost use mathlib.Core.Bool.{not};
-ghost use Prim.Native.Nat.{_<_, _≤_, _^_};
+ghost use Prim.Native.Nat.{_<_, _^_};
 ghost use lib.Dec.{T};
 ghost use lib.Ieee.{isNan};
 ghost use lib.Ieee.Nearest.{closest};

@@ -5,10 +5,10 @@ use mathlib.Core.Path.{_≡_, sym, ap, _∙_}
 use mathlib.Core.Bool.{Bool, true, false}
 use Prim.Native.Nat.{ℕ, _+_, _-_, _^_, _≤_}
 use borrow.Author.Tests.{le-leb, lt-leb}
-use lib.IntN.{ℤ, pos, _-ℤ_, +ℤ-idl}
+use lib.IntN.{pos, _-ℤ_, +ℤ-idl}
 use mir.Syntax.{w32}
 use mir.Val.{toZ}
-use Rattle.numbers.specs.Is.{Is, kept}
+use Rattle.numbers.specs.Is.{Is}
 use Rattle.numbers.proofs.Is.{is-lit, is-pos, is-sub, is-kept, is-fits}
 use Rattle.snap.specs.Unit.{signed, accept, roundedOf}
 use Rattle.snap.proofs.Sizes.{closest-at-most}

@@ -1,6 +1,6 @@
 -- What may be known of tiles and their rectangles: numbers and places go back and forth, and the sides are in order and rise.
 use mathlib.Core.Path.{_≡_, sym, ap, _∙_}
-use Prim.Native.Nat.{ℕ, zero, suc, _+_, _*_, _/_, _%_, _^_, _≤_, _<_}
+use Prim.Native.Nat.{ℕ, zero, suc, _+_, _*_, _-_, _/_, _%_, _^_, _≤_, _<_}
 use native.Mathlib.Nat.{mul-le-mul-left, mul-le-mul-right, div-add-mod, mod-lt, div-lt-iff-lt-mul}
 use native.Mathlib.Omega.{arith}
 use lib.IntN.{pos}
@@ -10,7 +10,7 @@ use Rattle.numbers.proofs.Ceil.{same-mul}
 use Rattle.screen.specs.declared.Screen.{Screen}
 use Rattle.screen.specs.Screen.{Allowed, across, columns, rows, tiles, columnOf, rowOf, tileAt}
 use Rattle.screen.specs.Rectangle.{side, near, far, rectangleAt, Proper}
-use Rattle.screen.proofs.Sizes.{pixels≥, pixels≤, across≤}
+use Rattle.screen.proofs.Sizes.{pixels≥, pixels≤, across≤, across≥}
 
 pos-le : {m n : ℕ} → m ≤ n → pos m ≤ℤ pos n
 pos-le {m} {n} h = diff-le (diff-pos m) (diff-pos n) (omega arith)
@@ -54,12 +54,10 @@ module _ (d : Screen) (a : Allowed d) where
 
   -- a screen has a column and a row
   pub columns≥ : 0 < columns d
-  unfolding across
-  columns≥ = ?
+  columns≥ = across≥ (d .width) (d .s) (a .width≥)
 
   pub rows≥ : 0 < rows d
-  unfolding across
-  rows≥ = ?
+  rows≥ = across≥ (d .height) (d .s) (a .height≥)
 
   -- a tile's number from its column and row, and back
   pub column-row : (t : ℕ) → tileAt d (columnOf d t) (rowOf d t) ≡ t
@@ -71,15 +69,19 @@ module _ (d : Screen) (a : Allowed d) where
   pub row< : (t : ℕ) → t < tiles d → rowOf d t < rows d
   row< t h = div-lt-iff-lt-mul {k = columns d} {x = t} {y = rows d} columns≥ .1 (omega arith)
 
-  pub row-is : {column row : ℕ} → column < columns d → rowOf d (tileAt d column row) ≡ row
-  row-is {column} {row} h =
+  pub row-is : (column row : ℕ) → column < columns d → rowOf d (tileAt d column row) ≡ row
+  row-is column row h =
       let t = tileAt d column row in
-      let e = div-add-mod t (columns d) in
-      let m = mod-lt t columns≥ in
-      ?
+      let e : columns d * rowOf d t + columnOf d t ≡ t = div-add-mod t (columns d) in
+      let m = column< t in
+      same-mul (columns d) (rowOf d t) row (columns d - 1) (omega arith) (omega arith) (omega arith)
 
-  pub column-is : {column row : ℕ} → column < columns d → columnOf d (tileAt d column row) ≡ column
-  column-is {column} {row} h = ?
+  pub column-is : (column row : ℕ) → column < columns d → columnOf d (tileAt d column row) ≡ column
+  column-is column row h =
+      let t = tileAt d column row in
+      let e : columns d * rowOf d t + columnOf d t ≡ t = div-add-mod t (columns d) in
+      let r : columns d * rowOf d t ≡ columns d * row = ap (λ (x : ℕ). columns d * x) (row-is column row h) in
+      omega arith
 
   pub tile< : {column row : ℕ} → column < columns d → row < rows d → tileAt d column row < tiles d
   tile< {column} {row} hc hr = let w : columns d * suc row ≤ columns d * rows d = mul-le-mul-left (columns d) hr in omega arith

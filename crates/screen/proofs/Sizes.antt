@@ -1,7 +1,7 @@
 -- The sizes of tiles, for the s that are allowed, and division by a tile's side as orders of products.
 use mathlib.Core.Path.{_≡_, ap, _∙_}
-use Prim.Native.Nat.{ℕ, suc, _+_, _-_, _*_, _/_, _^_, _≤_, _<_}
-use native.Mathlib.Nat.{le-div-iff-mul-le, div-lt-iff-lt-mul}
+use Prim.Native.Nat.{ℕ, suc, _+_, _-_, _*_, _/_, _%_, _^_, _≤_, _<_}
+use native.Mathlib.Nat.{le-div-iff-mul-le, div-lt-iff-lt-mul, mod-eq-of-lt, mul-le-mul}
 use native.Mathlib.Omega.{arith}
 use lib.Pow.{pow-add, pow-mono, pow-pos}
 use Rattle.numbers.specs.Ceil.{ceil}
@@ -21,9 +21,22 @@ across≤ extent s e h =
     let k : ceil extent (2 ^ s) < 513 = div-lt-iff-lt-mul {k = 2 ^ s} {x = extent + (2 ^ s - 1)} {y = 513} (pow-pos s) .1 (omega arith) in
     omega arith
 
+pub across≥ : (extent s : ℕ) → 1 ≤ extent → 0 < across extent s
+unfolding across
+across≥ extent s h =
+    let w = pow-pos s in
+    le-div-iff-mul-le {k = 2 ^ s} {x = 1} {y = extent + (2 ^ s - 1)} w .1 (omega arith)
+
+-- 2^s and its multiples as a machine word
+pub shift-is : (k s : ℕ) → k ≤ 8192 → s ≤ 6 → (k * 2 ^ s) % 2 ^ 32 ≡ k * 2 ^ s
+shift-is k s h l = let w : k * 2 ^ s ≤ 8192 * 64 = mul-le-mul h (pixels≤ l) in mod-eq-of-lt (omega arith)
+
 -- a shift by s + 4 divides by the side
 pub side-pow : (s : ℕ) → 2 ^ (s + 4) ≡ side s
 side-pow s = pow-add 2 s 4 ∙ omega arith
+
+pub side> : (s : ℕ) → 0 < side s
+side> s = let w = pow-pos s in omega arith
 
 module _ (t : ℕ) (0<t : 0 < t) where
   -- (m − 1) / t is the first k with m ≤ (k + 1) · t

@@ -1,4 +1,6 @@
 -- `screen::rectangle_at` meets its contract.
+use mir.Syntax.{w64}
+use Rattle.numbers.proofs.Is.{is-call}
 use native.Mathlib.Omega.{arith}
 use borrow.Author.Needs.{needs}
 use Rattle.screen.proofs.rectangle_at.Statement.{statement}
@@ -17,7 +19,13 @@ far-side-requires-2 : tie.Need-far-side-requires-2
 far-side-requires-2 c κs = search needs
 
 returns : tie.Need-returns
-returns c = ?
+returns c =
+    λ i. record {
+      left = is-call w64 (c .before .before .before .near-side .ok) (c .before .before .before .near-side .ensures) .same i;
+      right = is-call w64 (c .before .before .far-side .ok) (c .before .before .far-side .ensures) .same i;
+      top = is-call w64 (c .before .near-side2 .ok) (c .before .near-side2 .ensures) .same i;
+      bottom = is-call w64 (c .far-side2 .ok) (c .far-side2 .ensures) .same i;
+    }
 
 pub rectangle-at-spec : {M : Type 1} → statement M
 rectangle-at-spec =

@@ -7,3 +7,5 @@ pub mod State
 pub mod Total
 pub mod Unique
 pub mod Header
+pub mod Written
+pub mod Opening

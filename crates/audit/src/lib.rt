@@ -1,0 +1,257 @@
+// The audit of a pool: whether a slice of words is a sound pool, for any words and any length. No function asks the caller for a sound pool. Every block is
+// marked as it is met, and no chain is followed past a marked block, so that an audit reads each word of the pool at most a few times.
+use numbers::wide;
+use screen::{Block, Screen, Tile, allowed, tiles_of};
+
+ghost use mathlib.Core.Path.{_≡_};
+ghost use Prim.Native.Nat.{ℕ, _+_, _*_, _<_, _≤_, min};
+ghost use lib.ListN.{length, getD};
+ghost use Rattle.numbers.specs.Says.{Says};
+ghost use Rattle.screen.specs.Screen.{Allowed};
+ghost use Rattle.pool.specs.Words.{edition};
+ghost use Rattle.pool.specs.State.{times};
+ghost use Rattle.pool.specs.Sound.{screenOf, Opened};
+ghost use Rattle.audit.specs.Chain.{Places, timesInFirst};
+ghost use Rattle.audit.specs.Walk.{blockAt, tileAt, wordOf, WalkSays, Passes, chainOf, TileRight, TilesRight, ChainsRight};
+ghost use Rattle.audit.specs.Answer.{HeaderOf, AuditSays};
+
+// Words of the header, of a tile and of a block, and what a block's id places hold.
+const HEADER: usize = 8;
+
+const TILE: usize = 3;
+
+const IDS: usize = 31;
+
+const IDS_LESS_ONE: usize = IDS - 1;
+
+const BLOCK: usize = IDS + 1;
+
+const LIMIT: u32 = 16777216;
+
+const POISON: u32 = 0xDEADBEEF;
+
+const MOST_BLOCKS: u32 = 2048;
+
+// What the header of a sound pool says: the screen, how many tiles and blocks there are, and where the blocks start.
+pub struct Header {
+    pub screen: Screen,
+    pub tiles: u32,
+    pub blocks: u32,
+    pub start: usize,
+}
+
+// What an audit answers.
+pub enum Audited {
+    Sound(Header),
+    Damaged,
+}
+
+// Where a walk along a chain ended: at the link that named its last block, 0 if it has none.
+pub enum Walked {
+    Broken,
+    Ends(u32),
+}
+
+// Whether the id places of a block hold k ids, and then poison.
+fn block_right(pool: &[u32], from: usize, block: Block, k: usize) -> bool
+    requires { ⌜ blockAt edition from (block .0 + 1) ≤ length (now pool) ⌝ }
+    ensures { λ r. ⌜ Says r (Places edition (wordOf edition (now (pool .entry)) from (block .0)) k) ⌝ }
+{
+    let at = from + BLOCK * wide(block.0);
+    let mut j = 0;
+    while j < IDS {
+        let word = pool[at + j];
+        if j < k {
+            if word >= LIMIT {
+                return false;
+            }
+        } else {
+            if word != POISON {
+                return false;
+            }
+        }
+        j += 1;
+    }
+    true
+}
+
+// The link of a block.
+fn link_of(pool: &[u32], from: usize, block: Block) -> u32
+    requires { ⌜ blockAt edition from (block .0 + 1) ≤ length (now pool) ⌝ }
+    ensures { λ r. ⌜ r ≡ wordOf edition (now (pool .entry)) from (block .0) (edition .ids) ⌝ }
+{
+    let at = from + BLOCK * wide(block.0);
+    pool[at + IDS]
+}
+
+// How many of q entries a block holds.
+fn share(q: usize) -> usize
+    ensures { λ r. ⌜ r ≡ min (edition .ids) q ⌝ }
+{
+    if q < IDS { q } else { IDS }
+}
+
+// Walks `left` blocks from `link` on, which hold q entries, and marks each. It stops at a block that is marked already.
+fn walk(
+    pool: &[u32],
+    marks: &mut [u8],
+    from: usize,
+    blocks: u32,
+    mut link: u32,
+    mut q: usize,
+    mut left: usize,
+) -> Walked
+    requires { ⌜ (blockAt edition from blocks ≤ length (now pool)) × (blocks ≤ length (now marks)) ⌝ }
+    ensures { λ r. ⌜ WalkSays edition (now (pool .entry)) from blocks link q left (now (marks .entry)) (now (marks .exit)) r ⌝ }
+{
+    let mut last = 0;
+    while left > 0 {
+        if link == 0 {
+            return Walked::Broken;
+        }
+        if link > blocks {
+            return Walked::Broken;
+        }
+        let b = wide(link - 1);
+        if marks[b] != 0 {
+            return Walked::Broken;
+        }
+        let k = share(q);
+        if block_right(pool, from, Block(link - 1), k) {
+            marks[b] = 1;
+            last = link;
+            link = link_of(pool, from, Block(link - 1));
+            q -= k;
+            left -= 1;
+        } else {
+            return Walked::Broken;
+        }
+    }
+    if link == 0 {
+        Walked::Ends(last)
+    } else {
+        Walked::Broken
+    }
+}
+
+// Whether a tile has its chain and names the last block of it. The chain's blocks are marked.
+fn tile_right(pool: &[u32], marks: &mut [u8], from: usize, blocks: u32, tile: Tile) -> bool
+    requires { ⌜ (blockAt edition from blocks ≤ length (now pool)) × (blocks ≤ length (now marks)) × (tileAt edition (tile .0 + 1) ≤ length (now pool)) ⌝ }
+    ensures { λ r. ⌜ Passes r (TileRight edition (now (pool .entry)) from blocks (tile .0)) blocks (now (marks .entry)) (now (marks .exit)) (λ b. times b (chainOf edition (now (pool .entry)) from (tile .0))) ⌝ }
+{
+    let at = HEADER + TILE * wide(tile.0);
+    let q = wide(pool[at]);
+    let steps = (q + IDS_LESS_ONE) / IDS;
+    let Walked::Ends(last) = walk(pool, marks, from, blocks, pool[at + 1], q, steps) else {
+        return false;
+    };
+    last == pool[at + 2]
+}
+
+// Whether each of the first `count` tiles has its chain. All their blocks are marked.
+fn tiles_right(pool: &[u32], marks: &mut [u8], from: usize, blocks: u32, count: u32) -> bool
+    requires { ⌜ (blockAt edition from blocks ≤ length (now pool)) × (blocks ≤ length (now marks)) × (tileAt edition count ≤ length (now pool)) ⌝ }
+    ensures { λ r. ⌜ Passes r (TilesRight edition (now (pool .entry)) from blocks count) blocks (now (marks .entry)) (now (marks .exit)) (λ b. timesInFirst b (chainOf edition (now (pool .entry)) from) count) ⌝ }
+{
+    let mut t = 0;
+    while t < count {
+        if tile_right(pool, marks, from, blocks, Tile(t)) {
+            t += 1;
+        } else {
+            return false;
+        }
+    }
+    true
+}
+
+// Whether each of the first n blocks is marked.
+fn all_marked(marks: &[u8], n: usize) -> bool
+    requires { ⌜ n ≤ length (now marks) ⌝ }
+    ensures { λ r. ⌜ Says r ((b : ℕ) → b < n → getD (now (marks .entry)) b 0 ≡ 1) ⌝ }
+{
+    let mut b = 0;
+    while b < n {
+        if marks[b] != 1 {
+            return false;
+        }
+        b += 1;
+    }
+    true
+}
+
+// Whether the tiles and the free blocks have their chains, and every block stands in one of them, once.
+fn chains_right(pool: &[u32], from: usize, blocks: u32, count: u32) -> bool
+    requires { ⌜ (edition .header ≤ length (now pool)) × (blockAt edition from blocks ≤ length (now pool)) × (blocks ≤ 2048) × (tileAt edition count ≤ length (now pool)) ⌝ }
+    ensures { λ r. ⌜ Says r (ChainsRight edition (now (pool .entry)) from blocks count) ⌝ }
+{
+    let mut marks = [0u8; 2048];
+    if tiles_right(pool, &mut marks, from, blocks, count) {
+        let Walked::Ends(_) = walk(pool, &mut marks, from, blocks, pool[5], 0, wide(pool[4])) else {
+            return false;
+        };
+        all_marked(&marks, wide(blocks))
+    } else {
+        false
+    }
+}
+
+// The screen that the first words say.
+fn screen_of(pool: &[u32]) -> Screen
+    requires { ⌜ edition .header ≤ length (now pool) ⌝ }
+    ensures { λ r. ⌜ r ≡ screenOf (now (pool .entry)) ⌝ }
+{
+    Screen { width: pool[0], height: pool[1], s: pool[2] }
+}
+
+// The header of a pool whose screen is within the rules.
+fn header_of(pool: &[u32]) -> Header
+    requires { ⌜ (edition .header ≤ length (now pool)) × Allowed (screenOf (now pool)) ⌝ }
+    ensures { λ r. ⌜ HeaderOf edition (now (pool .entry)) r ⌝ }
+{
+    let screen = screen_of(pool);
+    let tiles = tiles_of(screen);
+    Header { screen, tiles, blocks: pool[3], start: HEADER + TILE * wide(tiles) }
+}
+
+// Whether words 0 to 3, 6 and 7 are those of an accepted opening, and the slice is long enough.
+fn opened(pool: &[u32]) -> bool
+    ensures { λ r. ⌜ Says r (Opened edition (now (pool .entry))) ⌝ }
+{
+    if pool.len() < HEADER {
+        return false;
+    }
+    if allowed(screen_of(pool)) {
+        let header = header_of(pool);
+        if header.blocks > MOST_BLOCKS {
+            return false;
+        }
+        if wide(pool[6]) != HEADER {
+            return false;
+        }
+        if wide(pool[7]) != header.start {
+            return false;
+        }
+        if header.start + BLOCK * wide(header.blocks) > pool.len() {
+            return false;
+        }
+        true
+    } else {
+        false
+    }
+}
+
+// Whether a slice is a sound pool, and what its header says if it is.
+pub fn audit(pool: &[u32]) -> Audited
+    ensures { λ r. ⌜ AuditSays (now (pool .entry)) r ⌝ }
+{
+    if opened(pool) {
+        let header = header_of(pool);
+        if chains_right(pool, header.start, header.blocks, header.tiles) {
+            Audited::Sound(header)
+        } else {
+            Audited::Damaged
+        }
+    } else {
+        Audited::Damaged
+    }
+}

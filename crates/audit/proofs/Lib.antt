@@ -1,0 +1,4 @@
+pub mod Follow
+pub mod Held
+pub mod Passing
+pub mod Whole

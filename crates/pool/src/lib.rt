@@ -1,0 +1,1 @@
+// The pool of words: its layout, what it says, when it is sound; and the opening.

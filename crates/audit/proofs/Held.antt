@@ -5,24 +5,15 @@ use mathlib.Core.List.{List, [], _∷_, _++_}
 use Prim.Native.Nat.{ℕ, zero, suc, _+_, _-_, _*_, _<_, _≤_, min}
 use native.Mathlib.Nat.{not-suc-le-zero, le-of-suc-le-suc}
 use native.Mathlib.Omega.{arith}
-use borrow.Author.Tests.{eq-eqb, ne-eqb}
-use lib.Dec.{eqb}
 use lib.ListN.{length, getD, take, drop, length-append, length-take, length-drop, List·getD-append, List·getD-eq-default}
 use lib.Seq.{take-nil, getD-take, getD-drop, drop-at, length-take-le}
 use Rattle.numbers.proofs.Ceil.{lt-or-ge}
 use Rattle.pool.specs.Words.{Layout}
-use Rattle.pool.specs.State.{linkTo, one, times, Holds}
+use Rattle.pool.specs.State.{linkTo, times, Holds}
 use Rattle.pool.specs.Lists.{table}
+use Rattle.pool.proofs.Times.{one-other, times-head, times-tail}
+use Rattle.pool.proofs.Lists.{length-table, getD-table}
 use Rattle.audit.specs.Chain.{Chain, Filled, Places, next}
-
-length-table : (n : ℕ) (f : ℕ → ℕ) → length (table n f) ≡ n
-length-table zero f = refl
-length-table (suc n) f = ap suc (length-table n (λ k. f (suc k)))
-
-getD-table : (n : ℕ) (f : ℕ → ℕ) (k d : ℕ) → k < n → getD (table n f) k d ≡ f k
-getD-table zero f k d h = absurd (not-suc-le-zero h)
-getD-table (suc n) f zero d h = refl
-getD-table (suc n) f (suc k) d h = getD-table n (λ j. f (suc j)) k d (le-of-suc-le-suc h)
 
 drop-take : (m q : ℕ) (l : List ℕ) → drop m (take q l) ≡ take (q - m) (drop m l)
 drop-take zero q l = let e : q - 0 ≡ q = omega arith in rw e refl
@@ -45,7 +36,7 @@ chain-link next n link (b ∷ bs) h = h .0
 pub chain-none : (next : ℕ → ℕ) (n link : ℕ) (bs : List ℕ) → Chain next n link bs → (b : ℕ) → n ≤ b → times b bs ≡ 0
 chain-none next n link [] h b le = refl
 chain-none next n link (c ∷ bs) h b le =
-    omega (arith, ap one (ne-eqb b c (omega (arith, h .1))), chain-none next n (next c) bs (h .2) b le)
+    omega (arith, one-other b c (omega (arith, h .1)), chain-none next n (next c) bs (h .2) b le)
 
 module _ (L : Layout) (word : ℕ → ℕ → ℕ) where
   -- the id places of the blocks, one block after the other
@@ -93,8 +84,8 @@ module _ (L : Layout) (word : ℕ → ℕ → ℕ) where
     chain-held [] xs below h = refl
     chain-held (b ∷ bs) xs below h = (
       refl,
-      below b (omega (arith, ap one (eq-eqb b b refl))),
-      rw (h .0) (chain-held bs (drop (L .ids) xs) (λ c lt. below c (omega arith)) (h .2)),
+      below b (times-head b bs),
+      rw (h .0) (chain-held bs (drop (L .ids) xs) (λ c lt. below c (times-tail c b bs lt)) (h .2)),
     )
 
   -- the entries of a right chain are ids

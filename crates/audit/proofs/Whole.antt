@@ -1,16 +1,16 @@
 -- The words of a pool say a state exactly where the walks find its chains right; the state is that of the chains that the links lead to.
 use mathlib.Core.Path.{_≡_, refl, ap, sym, _∙_, subst}
-use mathlib.Core.Logic.{⊎-elim}
 use mathlib.Core.List.{List, [], _∷_}
-use Prim.Native.Nat.{ℕ, zero, suc, _+_, _-_, _*_, _<_, _≤_, zero-le}
+use Prim.Native.Nat.{ℕ, zero, suc, _+_, _-_, _*_, _<_, _≤_}
 use native.Mathlib.Nat.{not-suc-le-zero, le-of-suc-le-suc}
 use native.Mathlib.Omega.{arith}
 use lib.ListN.{length, getD, take}
 use Rattle.numbers.specs.Ceil.{ceil}
-use Rattle.numbers.proofs.Ceil.{ceil-enough, lt-or-ge}
+use Rattle.numbers.proofs.Ceil.{ceil-enough}
 use Rattle.pool.specs.Words.{Layout, start, headerWord, tileWord, blockWord}
 use Rattle.pool.specs.State.{Chained, empty, State, tileOf, linkTo, lastLink, times, timesInTiles, timesInAll, Holds}
 use Rattle.pool.specs.Sound.{TileShows, Shows}
+use Rattle.pool.proofs.State.{tile-block<, free-block<}
 use Rattle.audit.specs.Chain.{Chain, Filled, Places, follow, next, Run, timesInFirst}
 use Rattle.audit.specs.Walk.{wordOf, chainFrom, chainOf, freeOf, TileRight, TilesRight, FreeRight, ChainsRight}
 use Rattle.audit.proofs.Follow.{length-follow, follow-chain}
@@ -54,12 +54,6 @@ times-tiles b (x ∷ l) = omega (arith, times-front b (λ t. getD (x ∷ l) t em
 times-row : (b n : ℕ) (f : ℕ → Chained) → timesInTiles b (row n f) ≡ timesInFirst b (λ t. f t .blocks) n
 times-row b zero f = refl
 times-row b (suc n) f = omega (arith, times-front b (λ t. f t .blocks) n, times-row b n (λ t. f (suc t)))
-
--- a tile's chain is among all
-times-tile : (b : ℕ) (l : List Chained) (t : ℕ) → times b (getD l t empty .blocks) ≤ timesInTiles b l
-times-tile b [] t = zero-le
-times-tile b (x ∷ l) zero = omega arith
-times-tile b (x ∷ l) (suc t) = omega (arith, times-tile b l t)
 
 module _ (L : Layout) (0<ids : 0 < L .ids) (T N : ℕ) (p : List ℕ) where
   -- ---- from the walks to the state
@@ -119,22 +113,15 @@ module _ (L : Layout) (0<ids : 0 < L .ids) (T N : ℕ) (p : List ℕ) where
       follow-chain (next L (wordOf L p (start L T))) N link bs c ∙ ap (λ (j : ℕ). chainFrom L p (start L T) j link) e
 
   module _ (s : State) (h : Shows L T N p s) where
-    below-free : (b : ℕ) → 0 < times b (s .free) → b < N
-    below-free b lt = ⊎-elim (λ (l : b < N). l) (λ (g : N ≤ b). absurd (omega (arith, h .none b g))) (lt-or-ge b N)
-
-    below-tile : (t b : ℕ) → 0 < times b (tileOf s t .blocks) → b < N
-    below-tile t b lt =
-        ⊎-elim (λ (l : b < N). l) (λ (g : N ≤ b). absurd (omega (arith, h .none b g, times-tile b (s .tiles) t))) (lt-or-ge b N)
-
     free-chain : Chain (next L (wordOf L p (start L T))) N (headerWord p 5) (s .free)
     unfolding blockWord
-    free-chain = rw (h .first) (chain-held L (blockWord L T p) N (s .free) [] below-free (h .poisoned))
+    free-chain = rw (h .first) (chain-held L (blockWord L T p) N (s .free) [] (free-block< h) (h .poisoned))
 
     tile-chain : (t : ℕ) → t < T → Chain (next L (wordOf L p (start L T))) N (tileWord L p t 1) (tileOf s t .blocks)
     unfolding blockWord
     tile-chain t lt =
         let x = h .tile t lt in
-        rw (x .first) (chain-held L (blockWord L T p) N (tileOf s t .blocks) (tileOf s t .list) (below-tile t) (x .held))
+        rw (x .first) (chain-held L (blockWord L T p) N (tileOf s t .blocks) (tileOf s t .list) (tile-block< h t) (x .held))
 
     free-is : s .free ≡ freeOf L p (start L T)
     free-is = found (headerWord p 5) (headerWord p 4) (s .free) free-chain (sym (h .count))

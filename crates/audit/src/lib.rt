@@ -1,6 +1,7 @@
 // The audit of a pool: whether a slice of words is a sound pool, for any words and any length. No function asks the caller for a sound pool. Every block is
 // marked as it is met, and no chain is followed past a marked block, so that an audit reads each word of the pool at most a few times.
 use numbers::wide;
+use pool::{BLOCK_IDS, BLOCK_WORDS, HEADER_WORDS, ID_LIMIT, MOST_BLOCKS, POISON, TILE_WORDS, room_of, start_of};
 use screen::{Block, Screen, Tile, allowed, tiles_of};
 
 ghost use mathlib.Core.Path.{_≡_};
@@ -15,22 +16,7 @@ ghost use Rattle.audit.specs.Chain.{Places, timesInFirst};
 ghost use Rattle.audit.specs.Walk.{blockAt, tileAt, wordOf, WalkSays, Passes, chainOf, TileRight, TilesRight, ChainsRight};
 ghost use Rattle.audit.specs.Answer.{HeaderOf, AuditSays};
 
-// Words of the header, of a tile and of a block, and what a block's id places hold.
-const HEADER: usize = 8;
-
-const TILE: usize = 3;
-
-const IDS: usize = 31;
-
-const IDS_LESS_ONE: usize = IDS - 1;
-
-const BLOCK: usize = IDS + 1;
-
-const LIMIT: u32 = 16777216;
-
-const POISON: u32 = 0xDEADBEEF;
-
-const MOST_BLOCKS: u32 = 2048;
+const LAST_ID: usize = BLOCK_IDS - 1;
 
 // What the header of a sound pool says: the screen, how many tiles and blocks there are, and where the blocks start.
 pub struct Header {
@@ -57,12 +43,12 @@ fn block_right(pool: &[u32], from: usize, block: Block, k: usize) -> bool
     requires { ⌜ blockAt edition from (block .0 + 1) ≤ length (now pool) ⌝ }
     ensures { λ r. ⌜ Says r (Places edition (wordOf edition (now (pool .entry)) from (block .0)) k) ⌝ }
 {
-    let at = from + BLOCK * wide(block.0);
+    let at = from + BLOCK_WORDS * wide(block.0);
     let mut j = 0;
-    while j < IDS {
+    while j < BLOCK_IDS {
         let word = pool[at + j];
         if j < k {
-            if word >= LIMIT {
+            if word >= ID_LIMIT {
                 return false;
             }
         } else {
@@ -80,15 +66,15 @@ fn link_of(pool: &[u32], from: usize, block: Block) -> u32
     requires { ⌜ blockAt edition from (block .0 + 1) ≤ length (now pool) ⌝ }
     ensures { λ r. ⌜ r ≡ wordOf edition (now (pool .entry)) from (block .0) (edition .ids) ⌝ }
 {
-    let at = from + BLOCK * wide(block.0);
-    pool[at + IDS]
+    let at = from + BLOCK_WORDS * wide(block.0);
+    pool[at + BLOCK_IDS]
 }
 
 // How many of q entries a block holds.
 fn share(q: usize) -> usize
     ensures { λ r. ⌜ r ≡ min (edition .ids) q ⌝ }
 {
-    if q < IDS { q } else { IDS }
+    if q < BLOCK_IDS { q } else { BLOCK_IDS }
 }
 
 // Walks `left` blocks from `link` on, which hold q entries, and marks each. It stops at a block that is marked already.
@@ -117,21 +103,19 @@ fn walk(
             return Walked::Broken;
         }
         let k = share(q);
-        if block_right(pool, from, Block(link - 1), k) {
-            marks[b] = 1;
-            last = link;
-            link = link_of(pool, from, Block(link - 1));
-            q -= k;
-            left -= 1;
-        } else {
+        if !block_right(pool, from, Block(link - 1), k) {
             return Walked::Broken;
         }
+        marks[b] = 1;
+        last = link;
+        link = link_of(pool, from, Block(link - 1));
+        q -= k;
+        left -= 1;
     }
-    if link == 0 {
-        Walked::Ends(last)
-    } else {
-        Walked::Broken
+    if link != 0 {
+        return Walked::Broken;
     }
+    Walked::Ends(last)
 }
 
 // Whether a tile has its chain and names the last block of it. The chain's blocks are marked.
@@ -139,9 +123,9 @@ fn tile_right(pool: &[u32], marks: &mut [u8], from: usize, blocks: u32, tile: Ti
     requires { ⌜ (blockAt edition from blocks ≤ length (now pool)) × (blocks ≤ length (now marks)) × (tileAt edition (tile .0 + 1) ≤ length (now pool)) ⌝ }
     ensures { λ r. ⌜ Passes r (TileRight edition (now (pool .entry)) from blocks (tile .0)) blocks (now (marks .entry)) (now (marks .exit)) (λ b. times b (chainOf edition (now (pool .entry)) from (tile .0))) ⌝ }
 {
-    let at = HEADER + TILE * wide(tile.0);
+    let at = HEADER_WORDS + TILE_WORDS * wide(tile.0);
     let q = wide(pool[at]);
-    let steps = (q + IDS_LESS_ONE) / IDS;
+    let steps = (q + LAST_ID) / BLOCK_IDS;
     let Walked::Ends(last) = walk(pool, marks, from, blocks, pool[at + 1], q, steps) else {
         return false;
     };
@@ -155,11 +139,10 @@ fn tiles_right(pool: &[u32], marks: &mut [u8], from: usize, blocks: u32, count: 
 {
     let mut t = 0;
     while t < count {
-        if tile_right(pool, marks, from, blocks, Tile(t)) {
-            t += 1;
-        } else {
+        if !tile_right(pool, marks, from, blocks, Tile(t)) {
             return false;
         }
+        t += 1;
     }
     true
 }
@@ -185,14 +168,13 @@ fn chains_right(pool: &[u32], from: usize, blocks: u32, count: u32) -> bool
     ensures { λ r. ⌜ Says r (ChainsRight edition (now (pool .entry)) from blocks count) ⌝ }
 {
     let mut marks = [0u8; 2048];
-    if tiles_right(pool, &mut marks, from, blocks, count) {
-        let Walked::Ends(_) = walk(pool, &mut marks, from, blocks, pool[5], 0, wide(pool[4])) else {
-            return false;
-        };
-        all_marked(&marks, wide(blocks))
-    } else {
-        false
+    if !tiles_right(pool, &mut marks, from, blocks, count) {
+        return false;
     }
+    let Walked::Ends(_) = walk(pool, &mut marks, from, blocks, pool[5], 0, wide(pool[4])) else {
+        return false;
+    };
+    all_marked(&marks, wide(blocks))
 }
 
 // The screen that the first words say.
@@ -210,48 +192,45 @@ fn header_of(pool: &[u32]) -> Header
 {
     let screen = screen_of(pool);
     let tiles = tiles_of(screen);
-    Header { screen, tiles, blocks: pool[3], start: HEADER + TILE * wide(tiles) }
+    Header { screen, tiles, blocks: pool[3], start: start_of(wide(tiles)) }
 }
 
 // Whether words 0 to 3, 6 and 7 are those of an accepted opening, and the slice is long enough.
 fn opened(pool: &[u32]) -> bool
     ensures { λ r. ⌜ Says r (Opened edition (now (pool .entry))) ⌝ }
 {
-    if pool.len() < HEADER {
+    if pool.len() < HEADER_WORDS {
         return false;
     }
-    if allowed(screen_of(pool)) {
-        let header = header_of(pool);
-        if header.blocks > MOST_BLOCKS {
-            return false;
-        }
-        if wide(pool[6]) != HEADER {
-            return false;
-        }
-        if wide(pool[7]) != header.start {
-            return false;
-        }
-        if header.start + BLOCK * wide(header.blocks) > pool.len() {
-            return false;
-        }
-        true
-    } else {
-        false
+    if !allowed(screen_of(pool)) {
+        return false;
     }
+    let header = header_of(pool);
+    if MOST_BLOCKS < header.blocks {
+        return false;
+    }
+    if wide(pool[6]) != HEADER_WORDS {
+        return false;
+    }
+    if wide(pool[7]) != header.start {
+        return false;
+    }
+    if pool.len() < room_of(wide(header.tiles), wide(header.blocks)) {
+        return false;
+    }
+    true
 }
 
 // Whether a slice is a sound pool, and what its header says if it is.
 pub fn audit(pool: &[u32]) -> Audited
     ensures { λ r. ⌜ AuditSays (now (pool .entry)) r ⌝ }
 {
-    if opened(pool) {
-        let header = header_of(pool);
-        if chains_right(pool, header.start, header.blocks, header.tiles) {
-            Audited::Sound(header)
-        } else {
-            Audited::Damaged
-        }
-    } else {
-        Audited::Damaged
+    if !opened(pool) {
+        return Audited::Damaged;
     }
+    let header = header_of(pool);
+    if !chains_right(pool, header.start, header.blocks, header.tiles) {
+        return Audited::Damaged;
+    }
+    Audited::Sound(header)
 }

@@ -1,3 +1,10 @@
+-- `audit::header_of` reads the header off words 0 to 3.
+use mathlib.Core.Path.{_≡_, refl, ap, _∙_}
+use native.Mathlib.Omega.{arith}
+use denote.Ref.{now}
+use Rattle.screen.specs.Screen.{tiles}
+use Rattle.pool.specs.Words.{edition, start, headerWord}
+use Rattle.pool.specs.Sound.{tilesOf}
 use borrow.Author.Needs.{needs}
 use Rattle.audit.proofs.header_of.Statement.{statement}
 use Rattle.audit.proofs.header_of.Tie as tie
@@ -8,29 +15,34 @@ use Rattle.numbers.proofs.wide.Reads as wide-reads
 use Rattle.pool.proofs.start_of.Reads as start-of-reads
 use Rattle.screen.proofs.tiles_of.Reads as tiles-of-reads
 
--- src/lib.rt:193:9
+-- what the tiles are
+tiles-are : (c : tie.After-tiles-of) → c .tiles-of .result ≡ tilesOf (now (c .before .before .before .args .pool))
+tiles-are c = c .tiles-of .ensures ∙ ap tiles (c .before .screen-of .ensures)
+
 screen-of-requires : tie.Need-screen-of-requires
 screen-of-requires c κs = search needs
 
--- src/lib.rt:194:9
 tiles-of-requires : tie.Need-tiles-of-requires
-tiles-of-requires c κs = ?
+tiles-of-requires c κs = rw (c .screen-of .ensures) (c .before .before .pre .1)
 
--- src/lib.rt:195:37
 shared-slice-read-t5 : tie.Need-shared-slice-read-t5
 shared-slice-read-t5 c = search needs
 
--- src/lib.rt:195:62
 wide-requires : tie.Need-wide-requires
 wide-requires c κs = search needs
 
--- src/lib.rt:195:53
 start-of-requires : tie.Need-start-of-requires
-start-of-requires c κs = ?
+start-of-requires c κs = omega (arith, tiles-are (c .before .before), c .before .before .before .before .before .pre .1 .tiles≤)
 
--- src/lib.rt:189:1
 returns : tie.Need-returns
-returns c = ?
+unfolding headerWord
+returns c =
+    record {
+      screen = c .before .before .before .before .screen-of .ensures;
+      tiles = tiles-are (c .before .before .before);
+      blocks = refl;
+      start = c .start-of .ensures ∙ ap (start edition) (c .before .wide .ensures ∙ tiles-are (c .before .before .before));
+    }
 
 pub header-of-spec : {M : Type 1} → statement M
 header-of-spec =

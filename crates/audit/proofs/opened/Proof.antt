@@ -1,3 +1,12 @@
+-- `audit::opened` tests the words of the header that an opening writes, and the length, one after the other.
+use mathlib.Core.Path.{_≡_, ap₂, _∙_}
+use native.Mathlib.Omega.{arith}
+use borrow.Author.Tests.{not-true, not-false}
+use denote.Ref.{now}
+use Rattle.numbers.proofs.Says.{says-yes, says-no}
+use Rattle.screen.specs.Screen.{Allowed}
+use Rattle.pool.specs.Words.{edition, start, room, headerWord}
+use Rattle.pool.specs.Sound.{screenOf, tilesOf, blocksOf}
 use borrow.Author.Needs.{needs}
 use Rattle.audit.proofs.opened.Statement.{statement}
 use Rattle.audit.proofs.opened.Tie as tie
@@ -9,73 +18,78 @@ use Rattle.numbers.proofs.wide.Reads as wide-reads
 use Rattle.pool.proofs.room_of.Reads as room-of-reads
 use Rattle.screen.proofs.allowed.Reads as allowed-reads
 
--- src/lib.rt:203:9
-returns : tie.Need-returns
-returns c = ?
+-- the screen is within the rules, past that test
+screened : (c : tie.Else2) → Allowed (screenOf (now (c .before .before .before .before .before .args .pool)))
+screened c = rw (c .before .before .screen-of .ensures) at (c .before .allowed .ensures .yes (not-false _ (c .if2 .left)))
 
--- src/lib.rt:205:17
+-- the room that is asked for is that of the header
+needed : (c : tie.After-room-of) → c .room-of .result ≡ room edition (tilesOf (now (c .before .before .before .before .before .before .before .before .before .before .before .before .before .before .before .before .before .before .args .pool))) (blocksOf (now (c .before .before .before .before .before .before .before .before .before .before .before .before .before .before .before .before .before .before .args .pool)))
+needed c =
+    let header = c .before .before .before .before .before .before .before .before .before .before .before .before .header-of .ensures in
+    c .room-of .ensures ∙ ap₂ (room edition) (c .before .before .wide3 .ensures ∙ header .tiles) (c .before .wide4 .ensures ∙ header .blocks)
+
+returns : tie.Need-returns
+unfolding room start
+returns c = says-no (λ o. omega arith)
+
 screen-of-requires : tie.Need-screen-of-requires
 screen-of-requires c κs = search needs
 
--- src/lib.rt:205:9
 allowed-requires : tie.Need-allowed-requires
 allowed-requires c κs = search needs
 
--- src/lib.rt:206:9
 returns-2 : tie.Need-returns-2
-returns-2 c = ?
+returns-2 c = says-no (λ o. c .before .allowed .ensures .no (not-true _ (c .if2 .taken)) (rw (c .before .before .screen-of .ensures) (o .screen)))
 
--- src/lib.rt:208:9
 header-of-requires : tie.Need-header-of-requires
-header-of-requires c κs = ?
+header-of-requires c κs = (omega arith, screened c)
 
--- src/lib.rt:210:9
 returns-3 : tie.Need-returns-3
-returns-3 c = ?
+returns-3 c = says-no (λ o. omega arith)
 
--- src/lib.rt:212:13
 shared-slice-read-wide : tie.Need-shared-slice-read-wide
 shared-slice-read-wide c = search needs
 
--- src/lib.rt:212:8
 wide-requires : tie.Need-wide-requires
 wide-requires c κs = search needs
 
--- src/lib.rt:213:9
 returns-4 : tie.Need-returns-4
-returns-4 c = ?
+unfolding headerWord
+returns-4 c = says-no (λ o. omega arith)
 
--- src/lib.rt:215:13
 shared-slice-read-wide-2 : tie.Need-shared-slice-read-wide-2
 shared-slice-read-wide-2 c = search needs
 
--- src/lib.rt:215:8
 wide-requires-2 : tie.Need-wide-requires-2
 wide-requires-2 c κs = search needs
 
--- src/lib.rt:216:9
 returns-5 : tie.Need-returns-5
-returns-5 c = ?
+unfolding headerWord
+returns-5 c = says-no (λ o. omega arith)
 
--- src/lib.rt:218:29
 wide-requires-3 : tie.Need-wide-requires-3
 wide-requires-3 c κs = search needs
 
--- src/lib.rt:218:49
 wide-requires-4 : tie.Need-wide-requires-4
 wide-requires-4 c κs = search needs
 
--- src/lib.rt:218:21
 room-of-requires : tie.Need-room-of-requires
-room-of-requires c κs = ?
+room-of-requires c κs = omega (arith, screened (c .before .before .before .before .before .before .before .before .before .before .before .before) .tiles≤)
 
--- src/lib.rt:219:9
 returns-6 : tie.Need-returns-6
-returns-6 c = ?
+returns-6 c = says-no (λ o. omega (arith, needed (c .before)))
 
--- src/lib.rt:199:1
 returns-7 : tie.Need-returns-7
-returns-7 c = ?
+unfolding headerWord
+returns-7 c =
+    says-yes
+    record {
+      screen = screened (c .before .before .before .before .before .before .before .before .before .before .before .before .before .before);
+      blocks≤ = omega arith;
+      table-at = omega arith;
+      blocks-at = omega arith;
+      long = omega (arith, needed (c .before));
+    }
 
 pub opened-spec : {M : Type 1} → statement M
 opened-spec =

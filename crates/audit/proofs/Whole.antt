@@ -9,7 +9,7 @@ use Rattle.numbers.specs.Ceil.{ceil}
 use Rattle.numbers.proofs.Ceil.{ceil-enough}
 use Rattle.pool.specs.Words.{Layout, start, headerWord, tileWord, blockWord}
 use Rattle.pool.specs.State.{Chained, empty, State, tileOf, linkTo, lastLink, times, timesInTiles, timesInAll, Holds}
-use Rattle.pool.specs.Sound.{TileShows, Shows}
+use Rattle.pool.specs.Sound.{tilesOf, blocksOf, Opened, TileShows, Shows, Sound}
 use Rattle.pool.proofs.State.{tile-block<, free-block<}
 use Rattle.audit.specs.Chain.{Chain, Filled, Places, follow, next, Run, timesInFirst}
 use Rattle.audit.specs.Walk.{wordOf, chainFrom, chainOf, freeOf, TileRight, TilesRight, FreeRight, ChainsRight}
@@ -99,9 +99,13 @@ module _ (L : Layout) (0<ids : 0 < L .ids) (T N : ℕ) (p : List ℕ) where
         tile = λ t lt. rw (getD-row T tileFound t lt) (tile-shows t (h .tiles t lt));
         once = λ b lt. omega (arith, times-row b T tileFound, h .once b lt);
         none = λ b le.
-            omega (arith, times-row b T tileFound, chain-none link N (headerWord p 5) free (h .free .chain) b le,
-            times-none b (chainOf L p (start L T)) T
-            (λ t lt. chain-none link N (tileWord L p t 1) (chainOf L p (start L T) t) (h .tiles t lt .run .chain) b le));
+            omega (
+              arith,
+              times-row b T tileFound,
+              chain-none link N (headerWord p 5) free (h .free .chain) b le,
+              times-none b (chainOf L p (start L T)) T
+                  (λ t lt. chain-none link N (tileWord L p t 1) (chainOf L p (start L T) t) (h .tiles t lt .run .chain) b le),
+            );
       }
 
   -- ---- and back
@@ -164,8 +168,26 @@ module _ (L : Layout) (0<ids : 0 < L .ids) (T N : ℕ) (p : List ℕ) where
           tiles = tile-right;
           free = free-right;
           once = λ b lt.
-              omega (arith, h .once b lt, times-tiles b (s .tiles),
-              ap (timesInFirst b (λ t. tileOf s t .blocks)) (h .tiled),
-              times-same b (λ t. tileOf s t .blocks) (chainOf L p (start L T)) T tile-is,
-              ap (times b) free-is);
+              omega (
+                arith,
+                h .once b lt,
+                times-tiles b (s .tiles),
+                ap (timesInFirst b (λ t. tileOf s t .blocks)) (h .tiled),
+                times-same b (λ t. tileOf s t .blocks) (chainOf L p (start L T)) T tile-is,
+                ap (times b) free-is,
+              );
         }
+
+-- ---- so a pool is sound exactly where its header is right and its chains are
+module _ (L : Layout) (0<ids : 0 < L .ids) (p : List ℕ) {from n count : ℕ} (ef : from ≡ start L (tilesOf p)) (en : n ≡ blocksOf p)
+    (ec : count ≡ tilesOf p) where
+  pub sound-right : Opened L p → ChainsRight L p from n count → Sound L p
+  sound-right o h =
+      record {
+        opened = o;
+        state = stateFound L 0<ids (tilesOf p) (blocksOf p) p;
+        shows = shows-found L 0<ids (tilesOf p) (blocksOf p) p (rw (ef, en, ec) at h);
+      }
+
+  pub right-sound : Sound L p → ChainsRight L p from n count
+  right-sound s = rw (ef, en, ec) (right-shown L 0<ids (tilesOf p) (blocksOf p) p (s .state) (s .shows))

@@ -1,9 +1,20 @@
 // The audit of a pool: whether a slice of words is a sound pool, for any words and any length. No function asks the caller for a sound pool. Every block is
 // marked as it is met, and no chain is followed past a marked block, so that an audit reads each word of the pool at most a few times.
 use numbers::wide;
-use pool::{BLOCK_IDS, BLOCK_WORDS, HEADER_WORDS, ID_LIMIT, MOST_BLOCKS, POISON, TILE_WORDS, room_of, start_of};
-use screen::{Block, Screen, Tile, allowed, tiles_of};
-
+use pool::BLOCK_IDS;
+use pool::BLOCK_WORDS;
+use pool::HEADER_WORDS;
+use pool::ID_LIMIT;
+use pool::MOST_BLOCKS;
+use pool::POISON;
+use pool::TILE_WORDS;
+use pool::room_of;
+use pool::start_of;
+use screen::Block;
+use screen::Screen;
+use screen::Tile;
+use screen::allowed;
+use screen::tiles_of;
 ghost use mathlib.Core.Path.{_≡_};
 ghost use Prim.Native.Nat.{ℕ, _+_, _*_, _<_, _≤_, min};
 ghost use lib.ListN.{length, getD};
@@ -16,6 +27,7 @@ ghost use Rattle.audit.specs.Chain.{Places, timesInFirst};
 ghost use Rattle.audit.specs.Walk.{blockAt, tileAt, wordOf, WalkSays, Passes, chainOf, TileRight, TilesRight, ChainsRight};
 ghost use Rattle.audit.specs.Answer.{HeaderOf, AuditSays};
 
+// The last id place of a block.
 const LAST_ID: usize = BLOCK_IDS - 1;
 
 // What the header of a sound pool says: the screen, how many tiles and blocks there are, and where the blocks start.
@@ -33,7 +45,7 @@ pub enum Audited {
 }
 
 // Where a walk along a chain ended: at the link that named its last block, 0 if it has none.
-pub enum Walked {
+enum Walked {
     Broken,
     Ends(u32),
 }
@@ -182,7 +194,11 @@ fn screen_of(pool: &[u32]) -> Screen
     requires { ⌜ edition .header ≤ length (now pool) ⌝ }
     ensures { λ r. ⌜ r ≡ screenOf (now (pool .entry)) ⌝ }
 {
-    Screen { width: pool[0], height: pool[1], s: pool[2] }
+    Screen {
+        width: pool[0],
+        height: pool[1],
+        s: pool[2],
+    }
 }
 
 // The header of a pool whose screen is within the rules.
@@ -192,7 +208,12 @@ fn header_of(pool: &[u32]) -> Header
 {
     let screen = screen_of(pool);
     let tiles = tiles_of(screen);
-    Header { screen, tiles, blocks: pool[3], start: start_of(wide(tiles)) }
+    Header {
+        screen,
+        tiles,
+        blocks: pool[3],
+        start: start_of(wide(tiles)),
+    }
 }
 
 // Whether words 0 to 3, 6 and 7 are those of an accepted opening, and the slice is long enough.

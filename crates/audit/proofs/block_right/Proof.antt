@@ -11,9 +11,6 @@ use Rattle.pool.specs.Words.{edition}
 use Rattle.audit.specs.Chain.{Places}
 use Rattle.audit.proofs.block_right.Statement.{statement}
 use Rattle.audit.proofs.block_right.Tie as tie
-use Rattle.audit.proofs.block_right.Reads as reads
-use Rattle.audit.proofs.block_right.Lts as lts
-use Rattle.numbers.proofs.wide.Reads as wide-reads
 
 -- what place i has to hold
 abbrev Place : List ℕ → (at k i : ℕ) → Type 0

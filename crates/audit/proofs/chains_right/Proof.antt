@@ -1,71 +1,82 @@
+-- `audit::chains_right` says whether all chains are right: the marks of the tiles and of the free chain together are 1 at every block.
+use mathlib.Core.Path.{refl}
+use native.Mathlib.Omega.{arith}
+use borrow.Author.Tests.{not-true, not-false}
+use denote.Ref.{now}
+use Rattle.numbers.proofs.Says.{says-no, says-iff}
+use Rattle.pool.specs.Words.{edition, headerWord}
+use Rattle.audit.specs.Walk.{WalkSays}
+use Rattle.audit.proofs.Passing.{zeros}
+use Rattle.audit.proofs.Reading.{of-free}
 use borrow.Author.Needs.{needs}
 use Rattle.audit.proofs.chains_right.Statement.{statement}
 use Rattle.audit.proofs.chains_right.Tie as tie
-use Rattle.audit.proofs.chains_right.Reads as reads
-use Rattle.audit.proofs.chains_right.Lts as lts
-use Rattle.audit.proofs.all_marked.Reads as all-marked-reads
-use Rattle.audit.proofs.tiles_right.Reads as tiles-right-reads
-use Rattle.audit.proofs.walk.Reads as walk-reads
-use Rattle.numbers.proofs.wide.Reads as wide-reads
 
--- src/lib.rt:171:27
+-- what the walk along the free blocks says, of the words of the header
+told : (c : tie.After-walk) → let a = c .before .before .before .before .before .before .before .before .before .before .args in
+    WalkSays edition (now (a .pool)) (a .from) (a .blocks) (headerWord (now (a .pool)) 5) 0 (headerWord (now (a .pool)) 4)
+    (c .before .before .before .before .before .before .before .tiles-right .last .1 .0) (c .walk .last .1 .0) (c .walk .result)
+unfolding headerWord
+told c =
+    let a = c .before .before .before .before .before .before .before .before .before .before .args in
+    of-free edition (now (a .pool)) (a .from) (a .blocks) (c .before .before .before .before .before .before .before .tiles-right .last .1 .0) (c .walk .last .1 .0) (c .walk .result) refl
+    (c .before .wide .ensures) (c .walk .ensures)
+
 slice-aggregate-tiles-right : tie.Need-slice-aggregate-tiles-right
 slice-aggregate-tiles-right c = search needs
 
--- src/lib.rt:171:9
 tiles-right-requires : tie.Need-tiles-right-requires
 tiles-right-requires c κs = search needs
 
--- src/lib.rt:172:9
 returns : tie.Need-returns
-returns c = ?
+returns c =
+    says-no (λ h.
+    c .before .before .tiles-right .ensures .no (not-true _ (c .if1 .taken)) (h .tiles) (λ b lt. omega (arith, zeros 2048 b, h .once b lt)))
 
--- src/lib.rt:174:38
 slice-aggregate-walk : tie.Need-slice-aggregate-walk
 slice-aggregate-walk c = search needs
 
--- src/lib.rt:174:64
 shared-slice-read-walk : tie.Need-shared-slice-read-walk
 shared-slice-read-walk c = search needs
 
--- src/lib.rt:174:81
 shared-slice-read-wide : tie.Need-shared-slice-read-wide
 shared-slice-read-wide c = search needs
 
--- src/lib.rt:174:76
 wide-requires : tie.Need-wide-requires
 wide-requires c κs = search needs
 
--- src/lib.rt:174:27
 walk-requires : tie.Need-walk-requires
 walk-requires c κs = search needs
 
 enum-told : tie.Need-enum-told
 enum-told c = search needs
 
--- src/lib.rt:175:9
 enum-told-2 : tie.Need-enum-told-2
 enum-told-2 c = search needs
 
--- src/lib.rt:175:9
 returns-2 : tie.Need-returns-2
-returns-2 c = ?
+returns-2 c =
+    let t = c .before .before .before .before .before .before .before .before .before .before .tiles-right .ensures .yes (not-false _ (c .before .before .before .before .before .before .before .before .if1 .left)) in
+    let x = rw (c .enum-told2 .given .1) at (told (c .before .before .before)) in
+    says-no (λ h. x (h .free) (λ b lt. omega (arith, zeros 2048 b, t .1 b, h .once b lt)))
 
--- src/lib.rt:177:16
 slice-aggregate-all-marked : tie.Need-slice-aggregate-all-marked
 slice-aggregate-all-marked c = search needs
 
--- src/lib.rt:177:24
 wide-requires-2 : tie.Need-wide-requires-2
 wide-requires-2 c κs = search needs
 
--- src/lib.rt:177:5
 all-marked-requires : tie.Need-all-marked-requires
 all-marked-requires c κs = search needs
 
--- src/lib.rt:166:1
 returns-3 : tie.Need-returns-3
-returns-3 c = ?
+returns-3 c =
+    let t = c .before .before .before .before .before .before .before .before .before .before .before .before .before .tiles-right .ensures .yes (not-false _ (c .before .before .before .before .before .before .before .before .before .before .before .if1 .left)) in
+    let x = rw (c .before .before .before .enum-told .given .1) at (told (c .before .before .before .before .before .before)) in
+    says-iff
+    (λ all. record { tiles = t .0; free = x .run; once = λ b lt. omega (arith, zeros 2048 b, t .1 b, x .marked b, all b (omega arith)) })
+    (λ h b lt. omega (arith, zeros 2048 b, t .1 b, x .marked b, h .once b (omega arith)))
+    (c .all-marked .ensures)
 
 pub chains-right-spec : {M : Type 1} → statement M
 chains-right-spec =

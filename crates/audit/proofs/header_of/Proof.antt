@@ -8,12 +8,6 @@ use Rattle.pool.specs.Sound.{tilesOf}
 use borrow.Author.Needs.{needs}
 use Rattle.audit.proofs.header_of.Statement.{statement}
 use Rattle.audit.proofs.header_of.Tie as tie
-use Rattle.audit.proofs.header_of.Reads as reads
-use Rattle.audit.proofs.header_of.Lts as lts
-use Rattle.audit.proofs.screen_of.Reads as screen-of-reads
-use Rattle.numbers.proofs.wide.Reads as wide-reads
-use Rattle.pool.proofs.start_of.Reads as start-of-reads
-use Rattle.screen.proofs.tiles_of.Reads as tiles-of-reads
 
 -- what the tiles are
 tiles-are : (c : tie.After-tiles-of) → c .tiles-of .result ≡ tilesOf (now (c .before .before .before .args .pool))

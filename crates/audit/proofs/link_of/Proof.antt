@@ -3,9 +3,6 @@ use borrow.Author.Needs.{needs}
 use mathlib.Core.Path.{refl}
 use Rattle.audit.proofs.link_of.Statement.{statement}
 use Rattle.audit.proofs.link_of.Tie as tie
-use Rattle.audit.proofs.link_of.Reads as reads
-use Rattle.audit.proofs.link_of.Lts as lts
-use Rattle.numbers.proofs.wide.Reads as wide-reads
 
 wide-requires : tie.Need-wide-requires
 wide-requires c κs = search needs

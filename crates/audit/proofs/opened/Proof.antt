@@ -10,13 +10,6 @@ use Rattle.pool.specs.Sound.{screenOf, tilesOf, blocksOf}
 use borrow.Author.Needs.{needs}
 use Rattle.audit.proofs.opened.Statement.{statement}
 use Rattle.audit.proofs.opened.Tie as tie
-use Rattle.audit.proofs.opened.Reads as reads
-use Rattle.audit.proofs.opened.Lts as lts
-use Rattle.audit.proofs.header_of.Reads as header-of-reads
-use Rattle.audit.proofs.screen_of.Reads as screen-of-reads
-use Rattle.numbers.proofs.wide.Reads as wide-reads
-use Rattle.pool.proofs.room_of.Reads as room-of-reads
-use Rattle.screen.proofs.allowed.Reads as allowed-reads
 
 -- the screen is within the rules, past that test
 screened : (c : tie.Else2) → Allowed (screenOf (now (c .before .before .before .before .before .args .pool)))

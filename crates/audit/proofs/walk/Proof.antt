@@ -11,12 +11,6 @@ use Rattle.audit.specs.Walk.{wordOf}
 use Rattle.audit.proofs.Follow.{Going, going-start, going-step, going-next, going-stops, going-ends}
 use Rattle.audit.proofs.walk.Statement.{statement}
 use Rattle.audit.proofs.walk.Tie as tie
-use Rattle.audit.proofs.walk.Reads as reads
-use Rattle.audit.proofs.walk.Lts as lts
-use Rattle.audit.proofs.block_right.Reads as block-right-reads
-use Rattle.audit.proofs.link_of.Reads as link-of-reads
-use Rattle.audit.proofs.share.Reads as share-reads
-use Rattle.numbers.proofs.wide.Reads as wide-reads
 
 abbrev Inv-loop : tie.InvT-loop
 Inv-loop pool marks₀ from blocks link₀ q₀ left₀ last₀ marks link q left last =
@@ -91,7 +85,7 @@ loop-less : tie.Need-loop-less Inv-loop μ-loop
 loop-less c = omega arith
 
 loop-again : tie.Need-loop-again Inv-loop μ-loop
-loop-again c = 
+loop-again c =
     rw (c .before .before .before .before .before .before .wide .ensures, c .link-of .ensures)
     (going-step _ _ _ _ (c .before .before .before .before .before .before .before .before .before .before .loop .inv) _ (omega arith) (omega arith) (omega arith) (omega arith) (omega (arith, ap (λ (i : ℕ). getD (c .before .before .before .before .before .before .before .before .before .before .loop .marks) i 0) (c .before .before .before .before .before .before .wide .ensures)))
     (c .before .before .before .share .ensures) (c .before .before .block-right .ensures .yes (not-false _ (c .before .if4 .left))))
@@ -100,13 +94,13 @@ same-length-5 : tie.Need-same-length-5 Inv-loop μ-loop
 same-length-5 c = search needs
 
 returns-5 : tie.Need-returns-5 Inv-loop μ-loop
-returns-5 c = λ r apart. c .if5 .taken (going-stops _ _ _ _ (c .before .before .loop .inv) (omega arith) (r .chain))
+returns-5 c = λ r apart. omega (arith, going-stops _ _ _ _ (c .before .before .loop .inv) (omega arith) (r .chain))
 
 same-length-6 : tie.Need-same-length-6 Inv-loop μ-loop
 same-length-6 c = search needs
 
 returns-6 : tie.Need-returns-6 Inv-loop μ-loop
-returns-6 c = 
+returns-6 c =
     let e = going-ends _ _ _ _ (c .before .before .loop .inv) (omega arith) (omega arith) in
     record { run = record { chain = e .0; filled = e .1 }; last-is = e .2; marked = e .3 }
 

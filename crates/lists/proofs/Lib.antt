@@ -1,0 +1,5 @@
+pub mod Within
+pub mod PutIn
+pub mod Taking
+pub mod Appends
+pub mod Counts

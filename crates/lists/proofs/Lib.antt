@@ -3,3 +3,4 @@ pub mod PutIn
 pub mod Taking
 pub mod Appends
 pub mod Counts
+pub mod Several

@@ -4,3 +4,5 @@ pub mod Taking
 pub mod Appends
 pub mod Counts
 pub mod Several
+pub mod Gives
+pub mod Releases

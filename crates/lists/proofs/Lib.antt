@@ -6,3 +6,4 @@ pub mod Counts
 pub mod Several
 pub mod Gives
 pub mod Releases
+pub mod Widening

@@ -2,21 +2,21 @@
 use mathlib.Core.Path.{_≡_, refl, sym, ap, _∙_}
 use mathlib.Core.Logic.{_≢_}
 use mathlib.Core.List.{List, [], _∷_, _++_}
-use Prim.Native.Nat.{ℕ, zero, suc, _+_, _≤_, _<_}
+use Prim.Native.Nat.{ℕ, zero, suc, _+_, _*_, _≤_, _<_}
 use native.Mathlib.Nat.{not-suc-le-zero}
 use native.Mathlib.Omega.{arith}
 use lib.Dec.{eqb}
 use lib.ListN.{length, getD, set}
-use lib.Seq.{getD-set-same, getD-set-other}
+use lib.Seq.{getD-set-same, getD-set-other, set-getD}
 use Rattle.numbers.specs.Ceil.{ceil}
 use Rattle.pool.specs.Words.{Layout, Fair, start, room, headerWord, tileWord, blockWord, tileSet}
-use Rattle.pool.specs.State.{Chained, empty, State, tileOf, linkTo, one, times}
+use Rattle.pool.specs.State.{Chained, empty, State, tileOf, linkTo, lastLink, times}
 use Rattle.pool.specs.Sound.{Shows, Sound, tilesOf, blocksOf}
 use Rattle.pool.specs.Lists.{listOf}
 use Rattle.pool.proofs.Words.{start≤room, tile-set, tile-set-other-tile, tile-set-other-word, length-tileSet, header-tileSet, block-tileSet}
 use Rattle.pool.proofs.Times.{one-same, timesInTiles-at, times-head, times-differ}
 use Rattle.pool.proofs.Parts.{ceil-none}
-use Rattle.pool.proofs.Chain.{Same, frame, holds-nothing}
+use Rattle.pool.proofs.Chain.{Same, nil-of, frame, holds-nothing}
 use Rattle.pool.proofs.Lists.{listOf-shows, blocks≤entries}
 use Rattle.pool.proofs.State.{times≤, tile-block<, apart, free-apart, tile-frame, shows-set}
 use Rattle.lists.specs.Releasing.{giveChain, release}
@@ -104,3 +104,17 @@ release-releases {L} {p} A S t ht =
 
 pub release-keeps-sound : {L : Layout} {p : List ℕ} → Fair L → Sound L p → (t : ℕ) → t < tilesOf p → Sound L (release L (tilesOf p) p t)
 release-keeps-sound A S t ht = release-releases A S t ht .sound
+
+-- a tile without entries has no blocks, so that nothing is given back and zeros are put over zeros
+pub release-empty : {L : Layout} {p : List ℕ} → Fair L → Sound L p → (t : ℕ) → t < tilesOf p → tileWord L p t 0 ≡ 0 → release L (tilesOf p) p t ≡ p
+unfolding release giveChain tileSet tileWord
+release-empty {L} {p} A S t ht z =
+    let x = tileOf (S .state) t in
+    let k = S .shows .tile t ht in
+    let none : x .list ≡ [] = nil-of (x .list) (sym (k .entries) ∙ z) in
+    let nb : x .blocks ≡ [] = nil-of (x .blocks) (k .many ∙ rw none (ceil-none (L .ids) (A .ids>))) in
+    let e1 : tileWord L p t 1 ≡ 0 = k .first ∙ ap linkTo nb in
+    let e2 : tileWord L p t 2 ≡ 0 = k .last ∙ ap (lastLink 0) nb in
+    let put : (i : ℕ) → tileWord L p t i ≡ 0 → set p (L .header + L .tile * t + i) 0 ≡ p
+    = (λ i e. ap (set p (L .header + L .tile * t + i)) (sym e) ∙ set-getD p _ 0) in
+    rw (z, put 0 z, put 1 e1) (put 2 e2)

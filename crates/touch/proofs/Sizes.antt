@@ -1,6 +1,6 @@
 -- How large the numbers of an edge are, from the range of the vertices and of the sides.
 use Prim.Native.Nat.{ℕ, _<_, _^_}
-use mathlib.Core.Path.{refl}
+use mathlib.Core.Path.{refl, sym, subst}
 use lib.IntN.{ℤ, pos, _-ℤ_, _*ℤ_}
 use lib.Signed.{_≤ℤ_, mag}
 use mir.Syntax.{Width, w64}
@@ -18,7 +18,7 @@ use Rattle.touch.specs.declared.Three.{Three}
 use Rattle.touch.specs.declared.Edge.{Edge}
 use Rattle.touch.specs.declared.Edges.{Edges}
 use Rattle.touch.specs.Corner.{three}
-use Rattle.touch.specs.Edges.{AllPlaced, edgeOf, edgesOf, rowEdge, rowEdges, Within, EdgeRange, EdgesRange, RowEdgeRange, RowEdgesRange}
+use Rattle.touch.specs.Edges.{AllPlaced, edgeOf, edgesOf, starts, Outline, rowEdge, rowEdges, Within, EdgeRange, EdgesRange, RowEdgeRange, RowEdgesRange}
 
 pub is-within : {z : ℤ} {size : ℕ} → Within size z → Is z z size
 is-within h = record { same = refl; size = h .abs }
@@ -92,3 +92,11 @@ row-edge-range r t b =
 pub row-edges-range : {e : Edges} {top bottom : ℤ} → EdgesRange e → Within 524288 top → Within 524288 bottom → RowEdgesRange (rowEdges e top bottom)
 row-edges-range r t b =
     record { ab = row-edge-range (r .ab) t b; bc = row-edge-range (r .bc) t b; ca = row-edge-range (r .ca) t b }
+
+-- ---- the edges of three vertices in range
+
+pub outline : {t : Three} → AllPlaced t → Outline (edgesOf t)
+outline p = record { is = refl; placed = p }
+
+pub outline-range : {e : Edges} → Outline e → EdgesRange e
+outline-range o = subst EdgesRange (sym (o .is)) (edges-range (o .placed))

@@ -1,5 +1,6 @@
 -- The corner test answers exactly as touching by weights, of every kind of shape, in every winding and with any coincidence of vertices.
 use Prim.Native.Nat.{ℕ, _+_}
+use mathlib.Core.Path.{ap, sym, subst}
 use mathlib.Core.List.{[], _∷_}
 use mathlib.Core.Logic.{_↔_}
 use native.Mathlib.Omega.{arith}
@@ -7,9 +8,10 @@ use Rattle.screen.specs.declared.Rectangle.{Rectangle}
 use Rattle.screen.specs.Rectangle.{Proper}
 use Rattle.shape.specs.declared.Vertex.{Vertex}
 use Rattle.shape.specs.declared.Shape.{Shape}
+use Rattle.touch.specs.declared.Edges.{Edges}
 use Rattle.touch.specs.Touches.{Touches}
-use Rattle.touch.specs.Corner.{three, Box, Corner}
-use Rattle.touch.specs.Edges.{edgesOf, rowEdges, Clear}
+use Rattle.touch.specs.Corner.{three, triangle, Box, Corner}
+use Rattle.touch.specs.Edges.{edgesOf, starts, Outline, rowEdges, Clear}
 use Rattle.touch.proofs.Bias.{Spotted, Framed, depth, depthOf, spot, frame, spotted, framed, le-lifted, same-edge, same-box, to-hits, from-hits}
 use Rattle.touch.proofs.Passing.{hitting-passes}
 use Rattle.touch.proofs.Touching.{passing-hits}
@@ -80,3 +82,10 @@ pub clear-is-touching : (shape : Shape) {q : Rectangle} → Proper q → Box sha
 clear-is-touching shape {q} ok box =
     let e = corner-is-touching {shape = shape} ok in
     (λ h. e .0 (record { box = box; ab = h .ab; bc = h .bc; ca = h .ca }), λ t. let h = e .1 t in record { ab = h .ab; bc = h .bc; ca = h .ca })
+
+pub outline-clear-is-touching : {e : Edges} {q : Rectangle} → Outline e → Proper q → Box (triangle (starts e)) q
+    → Clear (rowEdges e (q .top) (q .bottom)) (q .left) (q .right) ↔ Touches (triangle (starts e)) q
+outline-clear-is-touching {e} {q} o ok box =
+    let f = clear-is-touching (triangle (starts e)) ok box in
+    let row = ap (λ (d : Edges). Clear (rowEdges d (q .top) (q .bottom)) (q .left) (q .right)) (o .is) in
+    (λ h. f .0 (subst (λ (P : Type 0). P) row h), λ t. subst (λ (P : Type 0). P) (sym row) (f .1 t))

@@ -15,7 +15,7 @@ use Rattle.shape.specs.declared.Vertex.{Vertex}
 use Rattle.shape.specs.declared.Shape.{Shape}
 use Rattle.shape.specs.declared.Shape.the-variants.{Point, Line, Triangle}
 use Rattle.touch.specs.Touches.{total, weighted, MeanIn, Touches}
-use Rattle.touch.specs.Corner.{three}
+use Rattle.touch.specs.Corner.{three, triangle}
 
 le-same : {x y x′ y′ : ℤ} → x′ ≡ x → y′ ≡ y → x ≤ℤ y → x′ ≤ℤ y′
 le-same e f h = rw (e, f) h
@@ -123,7 +123,7 @@ module _ (a b : Vertex) (q : Rectangle) where
   line-turned (u ∷ v ∷ w ∷ ws) m = absurd (let e = m .one-each in omega arith)
 
 -- a shape touches what the triangle of its three vertices touches
-pub touches-as-triangle : (shape : Shape) {q : Rectangle} → Touches shape q ↔ Touches (Triangle (three shape .a) (three shape .b) (three shape .c)) q
+pub touches-as-triangle : (shape : Shape) {q : Rectangle} → Touches shape q ↔ Touches (triangle (three shape)) q
 touches-as-triangle (Point a) {q} = (λ h. point-triangle a q (h .weights) (h .mean), λ h. triangle-point a q (h .weights) (h .mean))
 touches-as-triangle (Line a b) {q} = (λ h. line-triangle a b q (h .weights) (h .mean), λ h. triangle-line a b q (h .weights) (h .mean))
 touches-as-triangle (Triangle a b c) = (λ h. h, λ h. h)

@@ -15,6 +15,10 @@ three (Point a) = record { a = a; b = a; c = a }
 three (Line a b) = record { a = a; b = b; c = b }
 three (Triangle a b c) = record { a = a; b = b; c = c }
 
+-- and back: the triangle of three vertices
+abbrev pub triangle : Three → Shape
+triangle t = Triangle (t .a) (t .b) (t .c)
+
 abbrev pub lesser : ℤ → ℤ → ℤ
 lesser x y = cond (leZ x y) x y
 

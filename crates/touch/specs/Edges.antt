@@ -1,5 +1,6 @@
 -- What the corner test computes once for a shape, and once for a row of rectangles.
 use Prim.Native.Nat.{ℕ, _≤_}
+use mathlib.Core.Path.{_≡_}
 use lib.IntN.{ℤ, natAbs, _-ℤ_, _*ℤ_}
 use Rattle.shape.specs.declared.Vertex.{Vertex}
 use Rattle.shape.specs.Shape.{Placed}
@@ -33,6 +34,20 @@ edgesOf t =
       bc = edgeOf (t .b) (t .c) (t .a);
       ca = edgeOf (t .c) (t .a) (t .b);
     }
+
+-- the vertices at which the edges start
+abbrev pub starts : Edges → Three
+starts e =
+    record {
+      a = record { x = e .ab .x; y = e .ab .y };
+      b = record { x = e .bc .x; y = e .bc .y };
+      c = record { x = e .ca .x; y = e .ca .y };
+    }
+
+-- the edges are those of three vertices in range
+pub record Outline (e : Edges) : Type 0 where
+  pub is : e ≡ edgesOf (starts e)
+  pub placed : AllPlaced (starts e)
 
 -- an edge, at the top and the bottom of a row
 abbrev pub rowEdge : Edge → (top bottom : ℤ) → RowEdge

@@ -124,11 +124,11 @@ fn edge_of(a: Vertex, b: Vertex, c: Vertex) -> Edge
     let dy = b.y as i64 - y;
     let third = (c.x as i64 - x) * dy - (c.y as i64 - y) * dx;
     Edge {
-        x: x,
-        y: y,
-        dx: dx,
-        dy: dy,
-        third: third,
+        x,
+        y,
+        dx,
+        dy,
+        third,
     }
 }
 
@@ -178,14 +178,16 @@ fn apart_at(edge: RowEdge, left: i64, right: i64) -> bool
     requires { ⌜ (RowEdgeRange edge) × (Within 524288 left) × (Within 524288 right) ⌝ }
     ensures { λ r. ⌜ Says r (ApartAt edge left right) ⌝ }
 {
+    let third = edge.third;
     let near = (left - edge.x) * edge.dy;
     let far = (right - edge.x) * edge.dy;
     let p = near - edge.upper;
     let q = far - edge.upper;
     let r = near - edge.lower;
     let s = far - edge.lower;
-    ((edge.third <= 0) & (((0 < p) & (0 < q)) & ((0 < r) & (0 < s))))
-        | ((0 <= edge.third) & (((p < 0) & (q < 0)) & ((r < 0) & (s < 0))))
+    let above = (third <= 0) & (((0 < p) & (0 < q)) & ((0 < r) & (0 < s)));
+    let below = (0 <= third) & (((p < 0) & (q < 0)) & ((r < 0) & (s < 0)));
+    above | below
 }
 
 // Whether no edge separates the shape from what lies in the row from left to right.

@@ -15,33 +15,50 @@ value : {z x d u : ℤ} → Within 524288 z → Within 262144 x → Within 52428
 value p q r s = is-sub (is-kept w64 tt (part p q r)) (is-kept w64 tt (is-within s))
 
 sub-near : tie.Need-sub-near
-sub-near c = let p = c .before .before .pre in is-fits tt (way (p .1) (p .0 .x))
+sub-near c =
+    let p = c .before .before .before .pre in
+    is-fits tt (way (p .1) (p .0 .x))
 
 mul-near : tie.Need-mul-near
-mul-near c = let p = c .before .before .before .before .pre in is-fits tt (part (p .1) (p .0 .x) (p .0 .dy))
+mul-near c =
+    let p = c .before .before .before .before .before .pre in
+    is-fits tt (part (p .1) (p .0 .x) (p .0 .dy))
 
 sub-far : tie.Need-sub-far
-sub-far c = let p = c .before .before .before .before .before .before .pre in is-fits tt (way (p .2) (p .0 .x))
+sub-far c =
+    let p = c .before .before .before .before .before .before .before .pre in
+    is-fits tt (way (p .2) (p .0 .x))
 
 mul-far : tie.Need-mul-far
-mul-far c = let p = c .before .before .before .before .before .before .before .before .pre in is-fits tt (part (p .2) (p .0 .x) (p .0 .dy))
+mul-far c =
+    let p = c .before .before .before .before .before .before .before .before .before .pre in
+    is-fits tt (part (p .2) (p .0 .x) (p .0 .dy))
 
 sub-p : tie.Need-sub-p
-sub-p c = let p = c .before .before .before .before .before .before .before .before .before .before .pre in is-fits tt (value (p .1) (p .0 .x) (p .0 .dy) (p .0 .upper))
+sub-p c =
+    let p = c .before .before .before .before .before .before .before .before .before .before .before .pre in
+    is-fits tt (value (p .1) (p .0 .x) (p .0 .dy) (p .0 .upper))
 
 sub-q : tie.Need-sub-q
-sub-q c = let p = c .before .before .before .before .before .before .before .before .before .before .before .before .pre in is-fits tt (value (p .2) (p .0 .x) (p .0 .dy) (p .0 .upper))
+sub-q c =
+    let p = c .before .before .before .before .before .before .before .before .before .before .before .before .before .pre in
+    is-fits tt (value (p .2) (p .0 .x) (p .0 .dy) (p .0 .upper))
 
 sub-r : tie.Need-sub-r
-sub-r c = let p = c .before .before .before .before .before .before .before .before .before .before .before .before .before .before .pre in is-fits tt (value (p .1) (p .0 .x) (p .0 .dy) (p .0 .lower))
+sub-r c =
+    let p = c .before .before .before .before .before .before .before .before .before .before .before .before .before .before .before .pre in
+    is-fits tt (value (p .1) (p .0 .x) (p .0 .dy) (p .0 .lower))
 
 sub-s : tie.Need-sub-s
-sub-s c = let p = c .before .before .before .before .before .before .before .before .before .before .before .before .before .before .before .before .pre in is-fits tt (value (p .2) (p .0 .x) (p .0 .dy) (p .0 .lower))
+sub-s c =
+    let p = c .before .before .before .before .before .before .before .before .before .before .before .before .before .before .before .before .before .pre in
+    is-fits tt (value (p .2) (p .0 .x) (p .0 .dy) (p .0 .lower))
 
 returns : tie.Need-returns
 returns c =
-    let p = c .before .before .before .before .before .before .before .before .before .before .before .before .before .before .before .before .before .before .before .before .pre in
-    let third = is-field w64 (c .before .before .before .before .before .before .before .before .before .before .before .before .before .before .before .before .before .before .before .before .args .edge .third) (c .struct-told10 .given .1 .1 .0 .1) in
+    let s = c .before .before .before .before .before .before .before .before .before .before .before .before .before .before .before .before .before in
+    let p = s .pre in
+    let third = is-field w64 (s .args .edge .third) (c .struct-told9 .given .1 .1 .0 .1) in
     let lt = is-kept w64 tt (value (p .1) (p .0 .x) (p .0 .dy) (p .0 .upper)) in
     let rt = is-kept w64 tt (value (p .2) (p .0 .x) (p .0 .dy) (p .0 .upper)) in
     let lb = is-kept w64 tt (value (p .1) (p .0 .x) (p .0 .dy) (p .0 .lower)) in

@@ -7,6 +7,25 @@ use shape::Shape;
 ghost use mathlib.Core.Path.{_≡_};
 ghost use Rattle.calls.specs.Questions.{QuestionSays, notAsked, BoxSays, CornerSays};
 
+// What a bin answers: its number, the tiles listed and the blocks taken.
+pub struct Binned {
+    pub number: u32,
+    pub tiles: u32,
+    pub blocks: u32,
+}
+
+// What a release answers: its number, and the blocks given back.
+pub struct Released {
+    pub number: u32,
+    pub blocks: u32,
+}
+
+// What a read answers: its number, and the id.
+pub struct Found {
+    pub number: u32,
+    pub id: u32,
+}
+
 // What a question about touching answers: its number, and whether the shape touches the tile.
 pub struct Answered {
     pub number: u32,

@@ -2,3 +2,4 @@ pub mod Says
 pub mod Product
 pub mod Diff
 pub mod Is
+pub mod Ceil

@@ -1,3 +1,4 @@
 pub mod Says
 pub mod Diff
 pub mod Is
+pub mod Ceil

@@ -36,10 +36,10 @@ rectangle d t = rectangleAt d (columnOf d t) (rowOf d t)
 pub record Proper (q : Rectangle) : Type 0 where
   pub left≥ : pos 0 ≤ℤ q .left
   pub wide : q .left ≤ℤ q .right
-  pub right≤ : q .right ≤ℤ pos 131072
+  pub right≤ : q .right ≤ℤ pos 524288
   pub top≥ : pos 0 ≤ℤ q .top
   pub high : q .top ≤ℤ q .bottom
-  pub bottom≤ : q .bottom ≤ℤ pos 131072
+  pub bottom≤ : q .bottom ≤ℤ pos 524288
 
 -- along an axis, tile k and the closed interval from low to high have a point in common
 pub record Meets (extent s : ℕ) (low high : ℤ) (k : ℕ) : Type 0 where

@@ -1,10 +1,11 @@
 -- The rules for a screen, and the numbers of its tiles, row by row from the top left.
-use Prim.Native.Nat.{ℕ, _+_, _-_, _*_, _/_, _%_, _^_, _≤_}
+use Prim.Native.Nat.{ℕ, _+_, _*_, _/_, _%_, _^_, _≤_}
+use Rattle.numbers.specs.Ceil.{ceil}
 use Rattle.screen.specs.declared.Screen.{Screen}
 
 -- how many tiles of 2^s pixels cover an extent of that many pixels: the quotient, rounded up
 unfoldable pub across : ℕ → ℕ → ℕ
-across extent s = (extent + (2 ^ s - 1)) / 2 ^ s
+across extent s = ceil extent (2 ^ s)
 
 abbrev pub columns : Screen → ℕ
 columns d = across (d .width) (d .s)

@@ -1,9 +1,12 @@
 // The screen, its tiles and their numbers, and the one place that knows the closed rectangle of a tile.
 ghost use mathlib.Core.Path.{_≡_};
-ghost use Prim.Native.Nat.{_+_, _*_, _/_, _%_, _^_, _<_, _≤_};
+ghost use lib.IntN.{pos, negsuc};
+ghost use lib.Signed.{_≤ℤ_};
+ghost use Prim.Native.Nat.{ℕ, _+_, _*_, _/_, _%_, _^_, _<_, _≤_};
 ghost use Rattle.numbers.specs.Says.{Says};
-ghost use Rattle.screen.specs.Screen.{Allowed, across, columns, rows, tiles, columnOf, rowOf, tileAt};
-ghost use Rattle.screen.specs.Rectangle.{rectangleAt, Meeting};
+ghost use Rattle.screen.specs.Screen.{Allowed, across, columns, rows, tiles, columnOf, rowOf};
+ghost use Rattle.numbers.specs.Diff.{up};
+ghost use Rattle.screen.specs.Rectangle.{side, near, far, rectangleAt, Meeting};
 
 // The number of a tile.
 pub struct Tile(pub u32);
@@ -105,7 +108,8 @@ pub fn column_of(screen: Screen, tile: Tile) -> u32
     requires { ⌜ Allowed screen ⌝ }
     ensures { λ r. ⌜ r ≡ columnOf screen (tile .0) ⌝ }
 {
-    tile.0 % columns_of(screen)
+    let number = tile.0;
+    number % columns_of(screen)
 }
 
 // The row of a tile.
@@ -113,7 +117,8 @@ pub fn row_of(screen: Screen, tile: Tile) -> u32
     requires { ⌜ Allowed screen ⌝ }
     ensures { λ r. ⌜ r ≡ rowOf screen (tile .0) ⌝ }
 {
-    tile.0 / columns_of(screen)
+    let number = tile.0;
+    number / columns_of(screen)
 }
 
 // The tile in a column and a row, among `columns` columns.
@@ -122,4 +127,100 @@ pub fn tile_at(columns: u32, column: u32, row: u32) -> Tile
     ensures { λ r. ⌜ r .0 ≡ row * columns + column ⌝ }
 {
     Tile(row * columns + column)
+}
+
+// T, the side of a tile in units.
+fn side_of(s: u32) -> u32
+    requires { ⌜ s ≤ 6 ⌝ }
+    ensures { λ r. ⌜ (r ≡ side s) × (r ≤ 1024) ⌝ }
+{
+    16 << s
+}
+
+// How many whole sides of a tile there are in x units.
+fn sides_in(x: u32, s: u32) -> u32
+    requires { ⌜ s ≤ 6 ⌝ }
+    ensures { λ r. ⌜ r ≡ x / side s ⌝ }
+{
+    x >> (s + 4)
+}
+
+// k sides of a tile, in units.
+fn sides(k: u32, s: u32) -> i64
+    requires { ⌜ (k ≤ 512) × (s ≤ 6) ⌝ }
+    ensures { λ r. ⌜ r ≡ pos (k * side s) ⌝ }
+{
+    (k * side_of(s)) as i64
+}
+
+// Where tile k along an axis of that extent begins.
+pub fn near_side(extent: u32, s: u32, k: u32) -> i64
+    requires { ⌜ (extent ≤ 4096) × (3 ≤ s) × (s ≤ 6) × (k < across extent s) ⌝ }
+    ensures { λ r. ⌜ r ≡ near extent s k ⌝ }
+{
+    sides(k, s)
+}
+
+// Where tile k along an axis of that extent ends.
+pub fn far_side(extent: u32, s: u32, k: u32) -> i64
+    requires { ⌜ (extent ≤ 4096) × (3 ≤ s) × (s ≤ 6) × (k < across extent s) ⌝ }
+    ensures { λ r. ⌜ r ≡ far extent s k ⌝ }
+{
+    sides(k + 1, s)
+}
+
+// The closed rectangle of the tile in a column and a row.
+pub fn rectangle_at(screen: Screen, column: u32, row: u32) -> Rectangle
+    requires { ⌜ Allowed screen ⌝ }
+    requires { ⌜ (column < columns screen) × (row < rows screen) ⌝ }
+    ensures { λ r. ⌜ r ≡ rectangleAt screen column row ⌝ }
+{
+    let left = near_side(screen.width, screen.s, column);
+    let right = far_side(screen.width, screen.s, column);
+    let top = near_side(screen.height, screen.s, row);
+    let bottom = far_side(screen.height, screen.s, row);
+    Rectangle {
+        left,
+        right,
+        top,
+        bottom,
+    }
+}
+
+// x, and 0 where x is negative.
+fn positive(x: i32) -> u32
+    ensures { λ r. ⌜ r ≡ up x ⌝ }
+{
+    if x < 0 { 0 } else { x as u32 }
+}
+
+// The first tile along an axis that does not end before m.
+fn first_reaching(m: u32, s: u32) -> u32
+    requires { ⌜ s ≤ 6 ⌝ }
+    ensures reaches { λ r. ⌜ ((k : ℕ) → r ≤ k → m ≤ (k + 1) * side s) ⌝ }
+    ensures first { λ r. ⌜ ((k : ℕ) → m ≤ (k + 1) * side s → r ≤ k) ⌝ }
+{
+    if m == 0 { 0 } else { sides_in(m - 1, s) }
+}
+
+// How many of n tiles along an axis begin before m.
+fn beginning_before(m: u32, s: u32, n: u32) -> u32
+    requires { ⌜ (s ≤ 6) × (m ≤ 524288) ⌝ }
+    ensures within { λ r. ⌜ r ≤ n ⌝ }
+    ensures before { λ r. ⌜ ((k : ℕ) → k < r → k * side s < m) ⌝ }
+    ensures all { λ r. ⌜ ((k : ℕ) → k < n → k * side s < m → k < r) ⌝ }
+{
+    let count = sides_in(m + (side_of(s) - 1), s);
+    if count < n { count } else { n }
+}
+
+// The tiles along an axis of that extent that meet the closed interval from low to high.
+pub fn meeting(extent: u32, s: u32, low: i32, high: i32) -> Span
+    requires { ⌜ (extent ≤ 4096) × (3 ≤ s) × (s ≤ 6) ⌝ }
+    requires { ⌜ (negsuc 262143 ≤ℤ high) × (high ≤ℤ pos 262143) ⌝ }
+    ensures { λ r. ⌜ Meeting extent s low high r ⌝ }
+{
+    let start = first_reaching(positive(low), s);
+    let end = beginning_before(positive(high + 1), s, tiles_across(extent, s));
+    Span { start, end }
 }

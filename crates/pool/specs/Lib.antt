@@ -1,0 +1,5 @@
+pub mod Words
+pub mod State
+pub mod Sound
+pub mod Lists
+pub mod Opening

@@ -1,0 +1,57 @@
+-- The pool as a list of words, and its three kinds of word: of the header, of a tile, of a block.
+use mathlib.Core.List.{List}
+use Prim.Native.Nat.{ℕ, suc, _+_, _*_}
+use lib.ListN.{getD, set}
+
+-- What one edition of the pool differs from another in.
+pub record Layout : Type 0 where
+  -- words of the header
+  pub header : ℕ
+  -- words of a tile: entries, first block + 1, last block + 1, and what else there is
+  pub tile : ℕ
+  -- ids in a block; a block has one word more, its link
+  pub ids : ℕ
+  -- ids are below this
+  pub limit : ℕ
+  -- what stands where no id is
+  pub poison : ℕ
+
+-- the first edition
+abbrev pub edition : Layout
+edition = record { header = 8; tile = 3; ids = 31; limit = 16777216; poison = 0xDEADBEEF }
+
+-- what the laws ask of a layout
+pub record Fair (L : Layout) : Type 0 where
+  pub header> : 7 < L .header
+  pub tile> : 2 < L .tile
+  pub ids> : 0 < L .ids
+
+-- where the blocks start, after T tiles
+unfoldable pub start : Layout → (T : ℕ) → ℕ
+start L T = L .header + L .tile * T
+
+-- the room that T tiles and N blocks need
+unfoldable pub room : Layout → (T N : ℕ) → ℕ
+room L T N = start L T + suc (L .ids) * N
+
+-- word k of the header
+unfoldable pub headerWord : List ℕ → (k : ℕ) → ℕ
+headerWord p k = getD p k 0
+
+-- word i of tile t
+unfoldable pub tileWord : Layout → List ℕ → (t i : ℕ) → ℕ
+tileWord L p t i = getD p (L .header + L .tile * t + i) 0
+
+-- word k of block b, in a pool of T tiles; word `ids` is the link
+unfoldable pub blockWord : Layout → (T : ℕ) → List ℕ → (b k : ℕ) → ℕ
+blockWord L T p b k = getD p (start L T + suc (L .ids) * b + k) 0
+
+-- the words with another in one such place
+unfoldable pub headerSet : List ℕ → (k v : ℕ) → List ℕ
+headerSet p k v = set p k v
+
+unfoldable pub tileSet : Layout → List ℕ → (t i v : ℕ) → List ℕ
+tileSet L p t i v = set p (L .header + L .tile * t + i) v
+
+unfoldable pub blockSet : Layout → (T : ℕ) → List ℕ → (b k v : ℕ) → List ℕ
+blockSet L T p b k v = set p (start L T + suc (L .ids) * b + k) v

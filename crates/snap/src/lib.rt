@@ -127,10 +127,10 @@ pub fn snap(v: f32) -> Snapped
     ensures { λ r. ⌜ r ≡ unitOf v ⌝ }
 {
     let units = scaled(v);
-    if finite(v) {
-        return rounded(units);
+    if !finite(v) {
+        return Snapped::Refused(6);
     }
-    Snapped::Refused(6)
+    rounded(units)
 }
 
 // The number of an answer: 0 where it is a unit.

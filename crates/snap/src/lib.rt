@@ -87,7 +87,7 @@ fn nearest(n: u32, d: u32) -> u32
     whole + 1
 }
 
-// The unit, where it is in range.
+// The unit where it is in range, and else the refusal 7.
 fn accepted(unit: i32) -> Snapped
     ensures { λ r. ⌜ r ≡ accept unit ⌝ }
 {
@@ -121,18 +121,19 @@ fn rounded(units: f32) -> Snapped
     accepted(below)
 }
 
-// The unit of a coordinate.
+// The unit of a coordinate; 7 where it is out of range, as it is where the product of a finite coordinate is infinite; and 6 where
+// the coordinate is infinite or no number.
 pub fn snap(v: f32) -> Snapped
     ensures { λ r. ⌜ r ≡ unitOf v ⌝ }
 {
     let units = scaled(v);
-    if finite(v) {
-        return rounded(units);
+    if !finite(v) {
+        return Snapped::Refused(6);
     }
-    Snapped::Refused(6)
+    rounded(units)
 }
 
-// The number of an answer.
+// The number of an answer: 0 where it is a unit.
 pub fn number(answer: Snapped) -> u32
     ensures { λ r. ⌜ r ≡ numberOf answer ⌝ }
 {
@@ -142,7 +143,7 @@ pub fn number(answer: Snapped) -> u32
     }
 }
 
-// A vertex in units, x before y.
+// A vertex in units, or the first refusal, x before y.
 fn snap_vertex(vertex: PixelVertex) -> SnappedVertex
     ensures { λ r. ⌜ r ≡ vertexOf vertex ⌝ }
 {
@@ -157,7 +158,7 @@ fn snap_vertex(vertex: PixelVertex) -> SnappedVertex
     SnappedVertex::Whole(Vertex { x, y })
 }
 
-// The number of an answer for a vertex.
+// The number of an answer for a vertex: 0 where nothing is refused.
 fn vertex_number(answer: SnappedVertex) -> u32
     ensures { λ r. ⌜ r ≡ vertexNumberOf answer ⌝ }
 {
@@ -167,6 +168,7 @@ fn vertex_number(answer: SnappedVertex) -> u32
     }
 }
 
+// A point in units, or the first refusal.
 fn snap_point(a: PixelVertex) -> SnappedShape
     ensures { λ r. ⌜ r ≡ pointOf a ⌝ }
 {
@@ -177,6 +179,7 @@ fn snap_point(a: PixelVertex) -> SnappedShape
     SnappedShape::Whole(Shape::Point(p))
 }
 
+// A line in units, or the first refusal.
 fn snap_line(a: PixelVertex, b: PixelVertex) -> SnappedShape
     ensures { λ r. ⌜ r ≡ lineOf a b ⌝ }
 {
@@ -191,6 +194,7 @@ fn snap_line(a: PixelVertex, b: PixelVertex) -> SnappedShape
     SnappedShape::Whole(Shape::Line(p, q))
 }
 
+// A triangle in units, or the first refusal.
 fn snap_triangle(a: PixelVertex, b: PixelVertex, c: PixelVertex) -> SnappedShape
     ensures { λ r. ⌜ r ≡ triangleOf a b c ⌝ }
 {
@@ -220,7 +224,7 @@ pub fn snap_shape(shape: PixelShape) -> SnappedShape
     }
 }
 
-// The number of an answer for a shape.
+// The number of an answer for a shape: 0 where nothing is refused.
 pub fn shape_number(answer: SnappedShape) -> u32
     ensures { λ r. ⌜ r ≡ shapeNumberOf answer ⌝ }
 {

@@ -15,7 +15,7 @@ use Rattle.pool.specs.Words.{Layout, edition, Fair, start, room, headerW
 use Rattle.pool.specs.State.{Chained, empty, State, tileOf, linkTo, one, times, timesInTiles, Holds}
 use Rattle.pool.specs.Sound.{screenOf, tilesOf, blocksOf, Opened, Shows, Sound}
 use Rattle.pool.specs.Lists.{listOf}
-use Rattle.pool.specs.Opening.{rising, headerFor, freeBlock, freeBlocks, opening, openingState, OpenSays, written}
+use Rattle.pool.specs.Opening.{rising, headerFor, freeBlock, freeBlocks, opening, openingState, written}
 use Rattle.pool.proofs.Words.{edition-fair, row-within}
 use Rattle.pool.proofs.Times.{one-same, one-other}
 use Rattle.pool.proofs.Parts.{ceil-none}
@@ -244,38 +244,3 @@ header-fits d N = refl
 
 pub open-sound : (d : Screen) (N : ℕ) (p : List ℕ) → Allowed d → N ≤ 2048 → room edition (tiles d) N ≤ length p → Sound edition (opening edition d N p)
 open-sound d N p = opening-sound edition d N p (header-fits d N) edition-fair
-
--- ---- the rows of the table, one by one
-
-module _ {L : Layout} {d : Screen} {N : ℕ} {p : List ℕ} where
-  pub refuses-screen : (Allowed d → ⊥) → OpenSays L d N p 1 p
-  refuses-screen n = record {
-    bad-screen = λ _. (refl, refl);
-    too-many = λ a _. absurd (n a);
-    too-short = λ a _ _. absurd (n a);
-    done = λ a _ _. absurd (n a);
-  }
-
-  pub refuses-many : Allowed d → 2048 < N → OpenSays L d N p 2 p
-  refuses-many a m = record {
-    bad-screen = λ n. absurd (n a);
-    too-many = λ _ _. (refl, refl);
-    too-short = λ _ f _. absurd (omega arith);
-    done = λ _ f _. absurd (omega arith);
-  }
-
-  pub refuses-short : Allowed d → N ≤ 2048 → length p < room L (tiles d) N → OpenSays L d N p 3 p
-  refuses-short a f s = record {
-    bad-screen = λ n. absurd (n a);
-    too-many = λ _ m. absurd (omega arith);
-    too-short = λ _ _ _. (refl, refl);
-    done = λ _ _ l. absurd (omega arith);
-  }
-
-  pub opens : {q : List ℕ} → Allowed d → N ≤ 2048 → room L (tiles d) N ≤ length p → q ≡ opening L d N p → OpenSays L d N p 0 q
-  opens a f l e = record {
-    bad-screen = λ n. absurd (n a);
-    too-many = λ _ m. absurd (omega arith);
-    too-short = λ _ _ s. absurd (omega arith);
-    done = λ _ _ _. (refl, e);
-  }

@@ -1,22 +1,20 @@
 -- The decision tables of the public calls, a row for each number in the order in which it is given. A row has its cause, with no earlier one applying, and
--- then the whole outcome: the answer a, and the words q that are left of the words p.
+-- then the whole outcome: the answer a, and the words q that are left of the words p. The table of open stands beside the words that it leaves, in the
+-- crate `pool`, and those of the questions about touching in Questions.
 use mathlib.Core.Path.{_≡_}
 use mathlib.Core.List.{List}
 use Prim.Native.Nat.{ℕ, _≤_, _<_}
 use lib.ListN.{length, getD}
 use Rattle.numbers.specs.Ceil.{ceil}
-use Rattle.screen.specs.declared.Screen.{Screen}
-use Rattle.screen.specs.Screen.{Allowed, tiles}
 use Rattle.shape.specs.declared.Shape.{Shape}
 use Rattle.shape.specs.Shape.{InRange}
 use Rattle.walk.specs.Touched.{TouchedTiles}
 use Rattle.snap.specs.declared.PixelShape.{PixelShape}
 use Rattle.snap.specs.declared.SnappedShape.{SnappedShape}
 use Rattle.snap.specs.Shapes.{shapeOf}
-use Rattle.pool.specs.Words.{edition, room, headerWord}
+use Rattle.pool.specs.Words.{edition, headerWord}
 use Rattle.pool.specs.Sound.{Sound, screenOf, tilesOf}
 use Rattle.pool.specs.Lists.{listOf}
-use Rattle.pool.specs.Opening.{opening}
 use Rattle.lists.specs.Appending.{need, appendAll}
 use Rattle.lists.specs.Releasing.{release}
 use Rattle.calls.specs.declared.Binned.{Binned}
@@ -30,13 +28,6 @@ listIn p t = listOf edition (tilesOf p) p t
 -- word 4: how many blocks are free
 abbrev pub freeIn : List ℕ → ℕ
 freeIn p = headerWord p 4
-
--- open: 1, 2, 3
-pub data OpenSays (p : List ℕ) (d : Screen) (blocks a : ℕ) (q : List ℕ) : Type 0 where
-  bad-screen : (Allowed d → ⊥) → a ≡ 1 → q ≡ p → OpenSays p d blocks a q
-  too-many : Allowed d → 2048 < blocks → a ≡ 2 → q ≡ p → OpenSays p d blocks a q
-  too-short : Allowed d → blocks ≤ 2048 → length p < room edition (tiles d) blocks → a ≡ 3 → q ≡ p → OpenSays p d blocks a q
-  done : Allowed d → blocks ≤ 2048 → room edition (tiles d) blocks ≤ length p → a ≡ 0 → q ≡ opening edition d blocks p → OpenSays p d blocks a q
 
 -- the audit alone: 0 or 4
 pub data AuditSays (p : List ℕ) (a : ℕ) : Type 0 where

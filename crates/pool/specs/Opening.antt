@@ -3,7 +3,6 @@ use mathlib.Core.Path.{_≡_}
 use mathlib.Core.List.{List, [], _∷_, _++_}
 use Prim.Native.Nat.{ℕ, zero, suc, _*_, _≤_, _<_}
 use lib.ListN.{length, drop, replicate}
-use lib.Seq.{sets}
 use Rattle.screen.specs.declared.Screen.{Screen}
 use Rattle.screen.specs.Screen.{Allowed, tiles}
 use Rattle.pool.specs.Words.{Layout, start, room}
@@ -42,7 +41,3 @@ pub record OpenSays (L : Layout) (d : Screen) (N : ℕ) (p : List ℕ) (number :
   pub too-many : Allowed d → 2048 < N → (number ≡ 2) × (q ≡ p)
   pub too-short : Allowed d → N ≤ 2048 → length p < room L (tiles d) N → (number ≡ 3) × (q ≡ p)
   pub done : Allowed d → N ≤ 2048 → room L (tiles d) N ≤ length p → (number ≡ 0) × (q ≡ opening L d N p)
-
--- p with these words from a place on
-unfoldable pub written : List ℕ → (from : ℕ) → List ℕ → List ℕ
-written p from words = sets p from words

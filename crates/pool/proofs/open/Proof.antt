@@ -1,14 +1,12 @@
 -- `open`: each return is one row of the table, by the tests that led there.
-use mathlib.Core.Path.{_≡_, ap₂, _∙_}
+use mathlib.Core.Path.{ap₂, _∙_}
 use native.Mathlib.Omega.{arith}
 use borrow.Author.Needs.{needs}
 use borrow.Author.Tests.{not-true, not-false}
 use Rattle.pool.specs.Words.{edition, room}
-use Rattle.pool.proofs.Opening.{refuses-screen, refuses-many, refuses-short, opens}
+use Rattle.pool.proofs.Answers.{refuses-screen, refuses-many, refuses-short, opens}
 use Rattle.pool.proofs.open.Statement.{statement}
 use Rattle.pool.proofs.open.Tie as tie
-use Rattle.pool.proofs.open.Reads as reads
-use Rattle.pool.proofs.open.Lts as lts
 
 allowed-requires : tie.Need-allowed-requires
 allowed-requires c κs = search needs

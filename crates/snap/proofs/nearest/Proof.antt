@@ -1,0 +1,58 @@
+-- `snap::nearest` meets its contract: twice the remainder is compared with the divisor, and each way is one of `closest`'s.
+use borrow.Author.Needs.{needs}
+use native.Mathlib.Omega.{arith}
+use native.Mathlib.Nat.{div-le-self}
+use Prim.Native.Nat.{_^_}
+use lib.Pow.{pow-pos}
+use Rattle.snap.proofs.Divided.{one-shifted, part-le, goes-down, goes-up, stays-even, leaves-odd}
+use Rattle.snap.proofs.nearest.Statement.{statement}
+use Rattle.snap.proofs.nearest.Tie as tie
+
+shl-power : tie.Need-shl-power
+shl-power c = search needs
+
+shr-whole : tie.Need-shr-whole
+shr-whole c = search needs
+
+mul-rest : tie.Need-mul-rest
+mul-rest c = let a = c .args in omega (arith, part-le (a .n) (2 ^ a .d) _ (one-shifted (a .d) (c .pre .1)) (pow-pos (a .d)))
+
+sub-rest : tie.Need-sub-rest
+sub-rest c = let a = c .args in part-le (a .n) (2 ^ a .d) _ (one-shifted (a .d) (c .pre .1)) (pow-pos (a .d))
+
+add-twice : tie.Need-add-twice
+add-twice c = search needs
+
+returns : tie.Need-returns
+returns c = let a = c .before .args in goes-down (a .n) (2 ^ a .d) _ (one-shifted (a .d) (c .before .pre .1)) (pow-pos (a .d)) (c .if1 .taken)
+
+add-result : tie.Need-add-result
+add-result c = let a = c .before .before .args in omega (arith, div-le-self (a .n) (2 ^ a .d))
+
+returns-2 : tie.Need-returns-2
+returns-2 c = let a = c .before .before .args in goes-up (a .n) (2 ^ a .d) _ (one-shifted (a .d) (c .before .before .pre .1)) (pow-pos (a .d)) (c .if2 .taken)
+
+returns-3 : tie.Need-returns-3
+returns-3 c = let a = c .before .before .before .args in stays-even (a .n) (2 ^ a .d) _ (one-shifted (a .d) (c .before .before .before .pre .1)) (pow-pos (a .d)) (c .before .before .if1 .left) (c .before .if2 .left) (c .if3 .taken)
+
+add-result-2 : tie.Need-add-result-2
+add-result-2 c = let a = c .before .before .before .args in omega (arith, div-le-self (a .n) (2 ^ a .d))
+
+returns-4 : tie.Need-returns-4
+returns-4 c = let a = c .before .before .before .args in leaves-odd (a .n) (2 ^ a .d) _ (one-shifted (a .d) (c .before .before .before .pre .1)) (pow-pos (a .d)) (c .before .before .if1 .left) (c .before .if2 .left) (c .if3 .left)
+
+pub nearest-spec : {M : Type 1} → statement M
+nearest-spec =
+    tie.close
+    (tie.spec
+    shl-power
+    shr-whole
+    mul-rest
+    sub-rest
+    add-twice
+    returns
+    add-result
+    returns-2
+    returns-3
+    add-result-2
+    returns-4)

@@ -10,4 +10,3 @@ pub mod Header
 pub mod Rising
 pub mod Written
 pub mod Opening
-pub mod Answers

@@ -35,9 +35,10 @@ opening L d N p =
 abbrev pub openingState : (T N : ℕ) → State
 openingState T N = record { free = rising 0 N; tiles = replicate T empty }
 
--- What open answers for a screen d and N blocks over the words p: a number, and the words q that it leaves.
-pub record OpenSays (L : Layout) (d : Screen) (N : ℕ) (p : List ℕ) (number : ℕ) (q : List ℕ) : Type 0 where
-  pub bad-screen : (Allowed d → ⊥) → (number ≡ 1) × (q ≡ p)
-  pub too-many : Allowed d → 2048 < N → (number ≡ 2) × (q ≡ p)
-  pub too-short : Allowed d → N ≤ 2048 → length p < room L (tiles d) N → (number ≡ 3) × (q ≡ p)
-  pub done : Allowed d → N ≤ 2048 → room L (tiles d) N ≤ length p → (number ≡ 0) × (q ≡ opening L d N p)
+-- What open answers for a screen d and N blocks over the words p: a number a, and the words q that it leaves. Each row has its cause, with no earlier
+-- one applying, and then the whole outcome.
+pub data OpenSays (L : Layout) (p : List ℕ) (d : Screen) (N a : ℕ) (q : List ℕ) : Type 0 where
+  bad-screen : (Allowed d → ⊥) → a ≡ 1 → q ≡ p → OpenSays L p d N a q
+  too-many : Allowed d → 2048 < N → a ≡ 2 → q ≡ p → OpenSays L p d N a q
+  too-short : Allowed d → N ≤ 2048 → length p < room L (tiles d) N → a ≡ 3 → q ≡ p → OpenSays L p d N a q
+  done : Allowed d → N ≤ 2048 → room L (tiles d) N ≤ length p → a ≡ 0 → q ≡ opening L d N p → OpenSays L p d N a q

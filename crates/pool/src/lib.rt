@@ -130,7 +130,7 @@ fn write_opening(pool: &mut [u32], screen: Screen, blocks: u32)
 // Opens a pool for a screen, with so many blocks: all tiles empty, all blocks free. Answers 1 where the screen is not allowed, 2 where there are too
 // many blocks, 3 where the slice is too short, and then changes nothing; else 0.
 pub fn open(pool: &mut [u32], screen: Screen, blocks: u32) -> u32
-    ensures { λ r. ⌜ OpenSays edition screen blocks (now (pool .entry)) r (now (pool .exit)) ⌝ }
+    ensures { λ r. ⌜ OpenSays edition (now (pool .entry)) screen blocks r (now (pool .exit)) ⌝ }
 {
     if !screen::allowed(screen) {
         return BAD_SCREEN;

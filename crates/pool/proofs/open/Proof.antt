@@ -1,10 +1,10 @@
 -- `open`: each return is one row of the table, by the tests that led there.
-use mathlib.Core.Path.{ap₂, _∙_}
+use mathlib.Core.Path.{refl, ap₂, _∙_}
 use native.Mathlib.Omega.{arith}
 use borrow.Author.Needs.{needs}
 use borrow.Author.Tests.{not-true, not-false}
 use Rattle.pool.specs.Words.{edition, room}
-use Rattle.pool.proofs.Answers.{refuses-screen, refuses-many, refuses-short, opens}
+use Rattle.pool.specs.Opening.{bad-screen, too-many, too-short, done}
 use Rattle.pool.proofs.open.Statement.{statement}
 use Rattle.pool.proofs.open.Tie as tie
 
@@ -12,10 +12,10 @@ allowed-requires : tie.Need-allowed-requires
 allowed-requires c κs = search needs
 
 returns : tie.Need-returns
-returns c = refuses-screen (c .before .allowed .ensures .no (not-true _ (c .if1 .taken)))
+returns c = bad-screen (c .before .allowed .ensures .no (not-true _ (c .if1 .taken))) refl refl
 
 returns-2 : tie.Need-returns-2
-returns-2 c = refuses-many (c .before .before .allowed .ensures .yes (not-false _ (c .before .if1 .left))) (c .if2 .taken)
+returns-2 c = too-many (c .before .before .allowed .ensures .yes (not-false _ (c .before .if1 .left))) (c .if2 .taken) refl refl
 
 tiles-of-requires : tie.Need-tiles-of-requires
 tiles-of-requires c κs = c .before .before .allowed .ensures .yes (not-false _ (c .before .if1 .left))
@@ -38,7 +38,7 @@ returns-3 c =
     let e = r .before .before .before .before in
     let a = e .before .before .allowed .ensures .yes (not-false _ (e .before .if1 .left)) in
     let count = r .before .before .wide .ensures ∙ r .before .before .before .tiles-of .ensures in
-    refuses-short a (e .if2 .left) (rw (r .room-of .ensures ∙ ap₂ (room edition) count (r .before .wide2 .ensures)) at (c .if3 .taken))
+    too-short a (e .if2 .left) (rw (r .room-of .ensures ∙ ap₂ (room edition) count (r .before .wide2 .ensures)) at (c .if3 .taken)) refl refl
 
 write-opening-requires : tie.Need-write-opening-requires
 write-opening-requires c κs =
@@ -58,7 +58,7 @@ returns-4 c =
     let e = r .before .before .before .before in
     let a = e .before .before .allowed .ensures .yes (not-false _ (e .before .if1 .left)) in
     let count = r .before .before .wide .ensures ∙ r .before .before .before .tiles-of .ensures in
-    opens a (e .if2 .left) (rw (r .room-of .ensures ∙ ap₂ (room edition) count (r .before .wide2 .ensures)) at (w .before .before .if3 .left)) (w .write-opening .ensures)
+    done a (e .if2 .left) (rw (r .room-of .ensures ∙ ap₂ (room edition) count (r .before .wide2 .ensures)) at (w .before .before .if3 .left)) refl (w .write-opening .ensures)
 
 pub open-spec : {M : Type 1} → statement M
 open-spec =

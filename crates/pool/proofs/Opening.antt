@@ -1,68 +1,28 @@
 -- What an opening leaves is sound, whatever the slice held: every tile is empty, and every block is free, in rising order.
 use mathlib.Core.Path.{_≡_, refl, sym, ap, _∙_, subst}
-use mathlib.Core.Logic.{_≢_, ⊎-elim}
 use mathlib.Core.List.{List, [], _∷_, _++_, append-assoc}
 use Prim.Native.Nat.{ℕ, zero, suc, _+_, _*_, _-_, _≤_, _<_, zero-le}
 use native.Mathlib.Nat.{le-of-suc-le-suc, not-suc-le-zero}
 use native.Mathlib.Omega.{arith}
-use lib.Dec.{eqb}
-use lib.ListN.{length, getD, take, drop, length-append, length-drop, replicate, length-replicate, getD-replicate, List·getD-append}
-use lib.Seq.{getD-append-add, getD-at, getD-drop, drop-nil}
-use Rattle.numbers.proofs.Ceil.{eq-or-ne}
+use lib.ListN.{length, getD, drop, length-append, length-drop, replicate, length-replicate, getD-replicate, List·getD-append}
+use lib.Seq.{getD-append-add, getD-at, getD-drop}
 use Rattle.screen.specs.declared.Screen.{Screen}
 use Rattle.screen.specs.Screen.{Allowed, tiles}
 use Rattle.pool.specs.Words.{Layout, edition, Fair, start, room, headerWord, tileWord, blockWord}
-use Rattle.pool.specs.State.{Chained, empty, State, tileOf, linkTo, one, times, timesInTiles, Holds}
+use Rattle.pool.specs.State.{Chained, empty, linkTo, timesInTiles}
 use Rattle.pool.specs.Sound.{screenOf, tilesOf, blocksOf, Opened, Shows, Sound}
 use Rattle.pool.specs.Lists.{listOf}
-use Rattle.pool.specs.Opening.{rising, headerFor, freeBlock, freeBlocks, opening, openingState, written}
+use Rattle.pool.specs.Opening.{rising, headerFor, freeBlock, freeBlocks, opening, openingState}
+use Rattle.pool.specs.Written.{written}
 use Rattle.pool.proofs.Words.{edition-fair, row-within}
-use Rattle.pool.proofs.Times.{one-same, one-other}
 use Rattle.pool.proofs.Parts.{ceil-none}
+use Rattle.pool.proofs.Rising.{length-rising, times-rising, times-rising-above, holds-rising}
 use Rattle.pool.proofs.Lists.{listOf-shows}
 use Rattle.pool.proofs.Written.{written-append, written-is, length-freeBlock, length-freeBlocks}
-
--- ---- numbers in rising order
-
-pub length-rising : (c n : ℕ) → length (rising c n) ≡ n
-length-rising c zero = refl
-length-rising c (suc n) = ap suc (length-rising (suc c) n)
-
-pub times-rising-below : (b c n : ℕ) → b < c → times b (rising c n) ≡ 0
-times-rising-below b c zero h = refl
-times-rising-below b c (suc n) h = omega (arith, one-other b c (omega arith), times-rising-below b (suc c) n (omega arith))
-
-pub times-rising-above : (b c n : ℕ) → c + n ≤ b → times b (rising c n) ≡ 0
-times-rising-above b c zero h = refl
-times-rising-above b c (suc n) h = omega (arith, one-other b c (omega arith), times-rising-above b (suc c) n (omega arith))
-
-pub times-rising : (b c n : ℕ) → c ≤ b → b < c + n → times b (rising c n) ≡ 1
-times-rising b c zero h k = absurd (omega arith)
-times-rising b c (suc n) h k =
-    ⊎-elim (λ (e : b ≡ c). omega (arith, ap (λ (x : ℕ). one (eqb b x)) (sym e), one-same b, times-rising-below b (suc c) n (omega arith)))
-    (λ (ne : b ≢ c). omega (arith, one-other b c ne, times-rising b (suc c) n (omega arith) (omega arith)))
-    (eq-or-ne b c)
-
--- the link to the first of them
-pub link-rising : (b n : ℕ) → n ≢ 0 → linkTo (rising b n) ≡ suc b
-link-rising b zero h = absurd (h refl)
-link-rising b (suc n) h = refl
 
 pub timesInTiles-empty : (b T : ℕ) → timesInTiles b (replicate T empty) ≡ 0
 timesInTiles-empty b zero = refl
 timesInTiles-empty b (suc T) = omega (arith, timesInTiles-empty b T)
-
--- blocks in rising order, each linked to the next and full of poison, are a chain that holds nothing
-pub holds-rising : (ids poison : ℕ) (g : ℕ → ℕ → ℕ) (stop n c : ℕ) → c + n ≡ stop
-    → ((b : ℕ) → c ≤ b → b < stop → g b ids ≡ linkTo (rising (suc b) (stop - suc b)))
-    → ((b : ℕ) → c ≤ b → b < stop → (k : ℕ) → k < ids → g b k ≡ poison)
-    → Holds ids poison g (rising c n) []
-holds-rising ids poison g stop zero c e lk pl = tt
-holds-rising ids poison g stop (suc n) c e lk pl = (
-  (let w : stop - suc c ≡ n = omega arith in rw w at (lk c (omega arith) (omega arith))),
-  pl c (omega arith) (omega arith),
-  rw (drop-nil ids) (holds-rising ids poison g stop n (suc c) (omega arith) (λ b hb. lk b (omega arith)) (λ b hb. pl b (omega arith))),
-)
 
 -- ---- the words of free blocks
 
@@ -181,7 +141,7 @@ module _ (L : Layout) where
     -- ---- what they say
 
     module _ (A : Fair L) where
-      at : (k : ℕ) → k < 8 → headerWord (opening L d N p) k ≡ getD (headerFor L d N) k 0
+      at : (k : ℕ) → k ≤ 7 → headerWord (opening L d N p) k ≡ getD (headerFor L d N) k 0
       at k h = opening-header k (omega (arith, A .header>))
 
       pub opening-screen : screenOf (opening L d N p) ≡ d
@@ -194,6 +154,11 @@ module _ (L : Layout) where
       pub opening-blocks : blocksOf (opening L d N p) ≡ N
       unfolding headerFor
       opening-blocks = at 3 (omega arith)
+
+      -- all blocks are free
+      pub opening-free : headerWord (opening L d N p) 4 ≡ N
+      unfolding headerFor
+      opening-free = at 4 (omega arith)
 
       pub opening-opened : Allowed d → N ≤ 2048 → room L (tiles d) N ≤ length p → Opened L (opening L d N p)
       unfolding headerFor
@@ -208,7 +173,7 @@ module _ (L : Layout) where
       pub opening-shows : Shows L (tiles d) N (opening L d N p) (openingState (tiles d) N)
       unfolding headerFor
       opening-shows = record {
-        count = at 4 (omega arith) ∙ sym (length-rising 0 N);
+        count = opening-free ∙ sym (length-rising 0 N);
         first = at 5 (omega arith);
         poisoned = holds-rising (L .ids) (L .poison) (blockWord L (tiles d) (opening L d N p)) N N 0 (omega arith) (λ b _. opening-link b) (λ b _ hb k. opening-place b k hb);
         tiled = length-replicate (tiles d) empty;

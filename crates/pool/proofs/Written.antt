@@ -8,7 +8,8 @@ use lib.ListN.{length, set, take, drop, replicate, length-append, length-set, le
 use lib.Seq.{sets, sets-eq, length-sets}
 use Rattle.pool.specs.Words.{Layout}
 use Rattle.pool.specs.State.{linkTo}
-use Rattle.pool.specs.Opening.{rising, freeBlock, freeBlocks, written}
+use Rattle.pool.specs.Opening.{rising, freeBlock, freeBlocks}
+use Rattle.pool.specs.Written.{written}
 
 pub length-written : (p : List ℕ) (from : ℕ) (words : List ℕ) → length (written p from words) ≡ length p
 unfolding written

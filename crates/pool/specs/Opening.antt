@@ -3,7 +3,6 @@ use mathlib.Core.Path.{_≡_}
 use mathlib.Core.List.{List, [], _∷_, _++_}
 use Prim.Native.Nat.{ℕ, zero, suc, _*_, _≤_, _<_}
 use lib.ListN.{length, drop, replicate}
-use lib.Seq.{sets}
 use Rattle.screen.specs.declared.Screen.{Screen}
 use Rattle.screen.specs.Screen.{Allowed, tiles}
 use Rattle.pool.specs.Words.{Layout, start, room}
@@ -36,14 +35,10 @@ opening L d N p =
 abbrev pub openingState : (T N : ℕ) → State
 openingState T N = record { free = rising 0 N; tiles = replicate T empty }
 
--- The decision table of open over the words p, for a screen d and N blocks: 1, 2, 3. A row has its cause, with no earlier one applying, and then the whole
--- outcome: the number a, and the words q that are left.
+-- What open answers for a screen d and N blocks over the words p: a number a, and the words q that it leaves. Each row has its cause, with no earlier
+-- one applying, and then the whole outcome.
 pub data OpenSays (L : Layout) (p : List ℕ) (d : Screen) (N a : ℕ) (q : List ℕ) : Type 0 where
   bad-screen : (Allowed d → ⊥) → a ≡ 1 → q ≡ p → OpenSays L p d N a q
   too-many : Allowed d → 2048 < N → a ≡ 2 → q ≡ p → OpenSays L p d N a q
   too-short : Allowed d → N ≤ 2048 → length p < room L (tiles d) N → a ≡ 3 → q ≡ p → OpenSays L p d N a q
   done : Allowed d → N ≤ 2048 → room L (tiles d) N ≤ length p → a ≡ 0 → q ≡ opening L d N p → OpenSays L p d N a q
-
--- p with these words from a place on
-unfoldable pub written : List ℕ → (from : ℕ) → List ℕ → List ℕ
-written p from words = sets p from words

@@ -1,12 +1,12 @@
 // The pool: a lent slice of words with a header, a table of tiles and blocks, and its opening. `specs/` says what a pool says and when it is sound.
 ghost use mathlib.Core.Path.{_≡_};
-ghost use mathlib.Core.List.{[], _∷_};
-ghost use Prim.Native.Nat.{_+_, _*_, _<_, _≤_};
+ghost use Prim.Native.Nat.{suc, _+_, _*_, _<_, _≤_};
 ghost use lib.ListN.{length, replicate};
 ghost use Rattle.screen.specs.Screen.{Allowed, tiles};
 ghost use Rattle.pool.specs.Words.{edition, start, room};
 ghost use Rattle.pool.specs.State.{linkTo};
-ghost use Rattle.pool.specs.Opening.{rising, headerFor, freeBlock, freeBlocks, opening, written, OpenSays};
+ghost use Rattle.pool.specs.Opening.{rising, headerFor, freeBlock, freeBlocks, opening, OpenSays};
+ghost use Rattle.pool.specs.Written.{written};
 use numbers::narrow;
 use numbers::wide;
 use screen::Block;
@@ -79,7 +79,7 @@ fn rising_link(block: Block, count: u32) -> u32
 // The header of a pool in which every block is free, with its blocks from a place on.
 fn write_header(pool: &mut [u32], screen: Screen, blocks: u32, from: usize)
     requires { ⌜ Allowed screen ⌝ }
-    requires { ⌜ (8 ≤ length (now pool)) × (from ≡ start edition (tiles screen)) ⌝ }
+    requires { ⌜ (edition .header ≤ length (now pool)) × (from ≡ start edition (tiles screen)) ⌝ }
     ensures { λ r. ⌜ now (pool .exit) ≡ written (now (pool .entry)) 0 (headerFor edition screen blocks) ⌝ }
 {
     pool[0] = screen.width;
@@ -94,7 +94,7 @@ fn write_header(pool: &mut [u32], screen: Screen, blocks: u32, from: usize)
 
 // A free block, which `following` blocks follow, at a place of the pool.
 fn free_block(pool: &mut [u32], at: usize, block: Block, following: u32)
-    requires { ⌜ (at + 32 ≤ length (now pool)) × (block .0 < 2048) ⌝ }
+    requires { ⌜ (at + suc (edition .ids) ≤ length (now pool)) × (block .0 < 2048) ⌝ }
     ensures { λ r. ⌜ now (pool .exit) ≡ written (now (pool .entry)) at (freeBlock edition (block .0) following) ⌝ }
 {
     fill(pool, at, BLOCK_IDS, POISON);
@@ -103,7 +103,7 @@ fn free_block(pool: &mut [u32], at: usize, block: Block, following: u32)
 
 // All blocks free, in rising order.
 fn free_blocks(pool: &mut [u32], from: usize, blocks: u32)
-    requires { ⌜ (blocks ≤ 2048) × (from + 32 * blocks ≤ length (now pool)) ⌝ }
+    requires { ⌜ (blocks ≤ 2048) × (from + suc (edition .ids) * blocks ≤ length (now pool)) ⌝ }
     ensures { λ r. ⌜ now (pool .exit) ≡ written (now (pool .entry)) from (freeBlocks edition 0 blocks) ⌝ }
 {
     let mut b = 0;

@@ -1,5 +1,4 @@
 -- `fill`: after k words, writing the rest from there on gives what is promised; with none left, the words are that.
-use mathlib.Core.Path.{_≡_}
 use Prim.Native.Nat.{_-_}
 use borrow.Author.Needs.{needs}
 use Rattle.pool.proofs.Written.{Filling, fill-start, fill-step, fill-end}

@@ -1,5 +1,4 @@
 -- `free_block`: poison in its places, and then the link to the next block, are the words of the definition.
-use mathlib.Core.Path.{_∙_}
 use native.Mathlib.Numerals.{add-one}
 use borrow.Author.Needs.{needs}
 use Rattle.pool.specs.Words.{edition}

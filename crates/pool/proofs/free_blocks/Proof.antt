@@ -1,16 +1,10 @@
 -- `free_blocks`: after b blocks, writing the rest from there on gives what is promised; with none left, the words are that.
-use mathlib.Core.Path.{_≡_}
 use Prim.Native.Nat.{_-_}
-use native.Mathlib.Omega.{arith}
 use borrow.Author.Needs.{needs}
 use Rattle.pool.specs.Words.{edition}
 use Rattle.pool.proofs.Written.{Freeing, free-start, free-step, free-end}
 use Rattle.pool.proofs.free_blocks.Statement.{statement}
 use Rattle.pool.proofs.free_blocks.Tie as tie
-use Rattle.pool.proofs.free_blocks.Reads as reads
-use Rattle.pool.proofs.free_blocks.Lts as lts
-use Rattle.numbers.proofs.wide.Reads as wide-reads
-use Rattle.pool.proofs.free_block.Reads as free-block-reads
 
 abbrev Inv-loop : tie.InvT-loop
 Inv-loop pool₀ from blocks b₀ pool b = Freeing edition pool₀ from blocks pool b

@@ -2,7 +2,7 @@
 use mathlib.Core.Path.{sym, _∙_}
 use native.Mathlib.Numerals.{add-one}
 use borrow.Author.Needs.{needs}
-use Rattle.pool.proofs.Opening.{link-rising}
+use Rattle.pool.proofs.Rising.{link-rising}
 use Rattle.pool.proofs.rising_link.Statement.{statement}
 use Rattle.pool.proofs.rising_link.Tie as tie
 

@@ -1,5 +1,4 @@
 -- `room_of`: the sum is that of the definition, at the first edition's numbers.
-use native.Mathlib.Omega.{arith}
 use borrow.Author.Needs.{needs}
 use Rattle.pool.specs.Words.{start, room}
 use Rattle.pool.proofs.room_of.Statement.{statement}

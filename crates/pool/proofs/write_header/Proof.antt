@@ -1,10 +1,10 @@
 -- `write_header`: the eight stores, one after the other, are the eight words of the definition.
-use mathlib.Core.Path.{_≡_, refl, _∙_}
 use native.Mathlib.Omega.{arith}
 use borrow.Author.Needs.{needs}
 use lib.ListN.{length-set}
 use Rattle.pool.specs.Words.{start}
-use Rattle.pool.specs.Opening.{headerFor, written}
+use Rattle.pool.specs.Opening.{headerFor}
+use Rattle.pool.specs.Written.{written}
 use Rattle.pool.proofs.write_header.Statement.{statement}
 use Rattle.pool.proofs.write_header.Tie as tie
 

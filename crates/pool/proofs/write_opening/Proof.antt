@@ -1,6 +1,5 @@
 -- `write_opening`: the header, zeros and free blocks, written one after the other, are the words of the definition.
-use mathlib.Core.Path.{_≡_, ap, _∙_}
-use native.Mathlib.Omega.{arith}
+use mathlib.Core.Path.{ap, _∙_}
 use borrow.Author.Needs.{needs}
 use Rattle.pool.specs.Words.{edition, start, room}
 use Rattle.pool.proofs.Opening.{header-fits, opening-steps}

@@ -1,10 +1,15 @@
 // The public calls. None asks anything of its caller: any words in the pool, any shape and any number are answered, and a refusal gives its
 // number, zero in every other field, and changes no word.
+use audit::Audited;
 use screen::Rectangle;
 use screen::Screen;
 use screen::Tile;
 use shape::Shape;
+
 ghost use mathlib.Core.Path.{_≡_};
+ghost use Rattle.pool.specs.Words.{edition};
+ghost use Rattle.pool.specs.Opening.{OpenSays};
+ghost use Rattle.calls.specs.Tables.{AuditSays};
 ghost use Rattle.calls.specs.Questions.{QuestionSays, notAsked, BoxSays, CornerSays};
 
 // What a bin answers: its number, the tiles listed and the blocks taken.
@@ -30,6 +35,24 @@ pub struct Found {
 pub struct Answered {
     pub number: u32,
     pub touches: bool,
+}
+
+// Opens a pool for a screen with so many blocks: 0, or 1 for the screen, 2 for the blocks, 3 for a slice that is too short.
+pub fn open(pool: &mut [u32], screen: Screen, blocks: u32) -> u32
+    ensures { λ r. ⌜ OpenSays edition (now (pool .entry)) screen blocks r (now (pool .exit)) ⌝ }
+{
+    pool::open(pool, screen, blocks)
+}
+
+// 0 where the pool is sound, and else 4.
+pub fn audit(pool: &[u32]) -> u32
+    ensures { λ r. ⌜ AuditSays (now (pool .entry)) r ⌝ }
+{
+    let audited = audit::audit(pool);
+    let Audited::Sound(_) = audited else {
+        return 4;
+    };
+    0
 }
 
 // The rectangle that a question is about, or the number that it is refused with.

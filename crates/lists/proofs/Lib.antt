@@ -7,3 +7,4 @@ pub mod Several
 pub mod Gives
 pub mod Releases
 pub mod Widening
+pub mod Reaches

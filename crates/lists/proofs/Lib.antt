@@ -8,3 +8,6 @@ pub mod Gives
 pub mod Releases
 pub mod Widening
 pub mod Reaches
+pub mod AppendLoop
+pub mod ReleaseLoop
+pub mod ReadLoop

@@ -6,11 +6,10 @@ ghost use Prim.Native.Nat.{_+_, _*_, _^_, _≤_, _<_, suc};
 ghost use lib.ListN.{length, take, getD};
 ghost use Rattle.numbers.specs.Ceil.{ceil};
 ghost use Rattle.pool.specs.Words.{edition, start, headerWord, tileWord, blockWord, headerSet, tileSet, blockSet};
-ghost use Rattle.pool.specs.Sound.{Sound, tilesOf};
 ghost use Rattle.pool.specs.Lists.{listOf};
-ghost use Rattle.lists.specs.Appending.{need, append, appendIn, takeHead, takeBlock, appendAll, Distinct};
+ghost use Rattle.lists.specs.Appending.{need, append, appendIn, takeHead, takeBlock, appendAll};
 ghost use Rattle.lists.specs.Releasing.{fill, giveBlock, release};
-ghost use Rattle.lists.specs.Reach.{TileIn, BlockIn, Among, Roomy, Takeable, Givable};
+ghost use Rattle.lists.specs.Reach.{TileIn, BlockIn, Among, AllAmong, Appendable, Roomy, Takeable, Givable};
 
 use numbers::wide;
 use screen::Block;
@@ -103,8 +102,7 @@ fn set_block_word(pool: &mut [u32], tiles: usize, block: Block, k: usize, value:
 
 // How many blocks an id more in each of the first `count` named tiles takes.
 pub fn need(pool: &[u32], tiles: usize, named: &[u32], count: usize) -> usize
-    requires { ⌜ (Sound edition (now pool)) × (tiles ≡ tilesOf (now pool)) ⌝ }
-    requires { ⌜ (count ≤ length (now named)) × Distinct tiles (take count (now named)) ⌝ }
+    requires { ⌜ (count ≤ length (now named)) × AllAmong (now pool) tiles (take count (now named)) ⌝ }
     ensures { λ r. ⌜ r ≡ need edition (now (pool .entry)) (take count (now (named .entry))) ⌝ }
 {
     let mut blocks = 0;
@@ -177,9 +175,7 @@ pub fn append(pool: &mut [u32], tiles: usize, tile: Tile, id: u32)
 
 // One id more at the end of the list of each of the first `count` named tiles, where there are as many free blocks as that needs.
 pub fn append_all(pool: &mut [u32], tiles: usize, named: &[u32], count: usize, id: u32)
-    requires { ⌜ (Sound edition (now pool)) × (tiles ≡ tilesOf (now pool)) × (id < edition .limit) ⌝ }
-    requires { ⌜ (count ≤ length (now named)) × Distinct tiles (take count (now named)) ⌝ }
-    requires { ⌜ need edition (now pool) (take count (now named)) ≤ headerWord (now pool) 4 ⌝ }
+    requires { ⌜ (count ≤ length (now named)) × Appendable (now pool) tiles (take count (now named)) id ⌝ }
     ensures { λ r. ⌜ now (pool .exit) ≡ appendAll edition tiles (now (pool .entry)) (take count (now (named .entry))) id ⌝ }
 {
     let mut i = 0;

@@ -1,50 +1,60 @@
+-- `append_all`: to append to the tiles that are left ends in the words that are promised.
+use mathlib.Core.Path.{_≡_, refl}
+use Prim.Native.Nat.{_≤_, _<_, _-_}
+use native.Mathlib.Omega.{arith}
+use borrow.Author.Needs.{needs}
+use lib.ListN.{length, take, drop}
+use Rattle.pool.specs.Words.{edition}
+use Rattle.lists.specs.Appending.{appendAll}
+use Rattle.lists.proofs.AppendLoop.{Appending, rest-next, rest-none, among-first, appending-enough, appending-step, appending-end}
 use Rattle.lists.proofs.append_all.Statement.{statement}
 use Rattle.lists.proofs.append_all.Tie as tie
-use Rattle.lists.proofs.append_all.Reads as reads
-use Rattle.lists.proofs.append_all.Lts as lts
-use Rattle.lists.proofs.append.Reads as append-reads
 
 abbrev Inv-loop : tie.InvT-loop
-Inv-loop pool₀ tiles named count id i₀ pool i = ?
+Inv-loop pool₀ tiles named count id i₀ pool i = 
+    (i ≤ count) × (length pool ≡ length pool₀) × Appending pool tiles (drop i (take count named)) id (appendAll edition tiles pool₀ (take count named) id)
 
 abbrev μ-loop : tie.MeasureT-loop
-μ-loop pool₀ tiles named count id i₀ pool i = ?
+μ-loop pool₀ tiles named count id i₀ pool i = count - i
 
--- src/lib.rt:178:5
 loop-holds : tie.Need-loop-holds Inv-loop μ-loop
-loop-holds c = ?
+loop-holds c = let s = c .before .before in
+    (search needs, refl, record { ready = s .pre .1; ends = refl })
 
--- src/lib.rt:179:34
 mul-t11 : tie.Need-mul-t11 Inv-loop μ-loop
-mul-t11 c = ?
+mul-t11 c = search needs
 
--- src/lib.rt:179:34
 shared-slice-read-t13 : tie.Need-shared-slice-read-t13 Inv-loop μ-loop
-shared-slice-read-t13 c = ?
+shared-slice-read-t13 c = search needs
 
--- src/lib.rt:179:9
 append-requires : tie.Need-append-requires Inv-loop μ-loop
-append-requires c κs = ?
+append-requires c κs = let s = c .before .before .before .before .before .before in
+    let a = c .before .before .before in
+    let h : a .loop .i < s .args .count = omega (arith, c .before .before .loop-test .taken) in
+    let G = rw (rest-next (s .args .named .now) (s .args .count) (a .loop .i) (s .pre .0) h) at (a .loop .inv .2) in
+    (among-first (G .ready .among), appending-enough G)
 
--- src/lib.rt:180:9
 add-i : tie.Need-add-i Inv-loop μ-loop
-add-i c = ?
+add-i c = search needs
 
--- src/lib.rt:178:5
 loop-less : tie.Need-loop-less Inv-loop μ-loop
-loop-less c = ?
+loop-less c = search needs
 
--- src/lib.rt:178:5
 loop-again : tie.Need-loop-again Inv-loop μ-loop
-loop-again c = ?
+loop-again c = let s = c .before .before .before .before .before .before .before .before .before in
+    let a = c .before .before .before .before .before .before in
+    let h : a .loop .i < s .args .count = omega (arith, c .before .before .before .before .before .loop-test .taken) in
+    let G = rw (rest-next (s .args .named .now) (s .args .count) (a .loop .i) (s .pre .0) h) at (a .loop .inv .2) in
+    (search needs, search needs, appending-step G _ (c .before .before .append .ensures))
 
--- src/lib.rt:171:1
 same-length : tie.Need-same-length Inv-loop μ-loop
-same-length c = ?
+same-length c = search needs
 
--- src/lib.rt:171:1
 returns : tie.Need-returns Inv-loop μ-loop
-returns c = ?
+returns c = let s = c .before .before .before .before in
+    let e : c .before .loop .i ≡ s .args .count = omega (arith, c .loop-test .left) in
+    let G = rw (e, rest-none (s .args .named .now) (s .args .count) (s .pre .0)) at (c .before .loop .inv .2) in
+    appending-end G
 
 pub append-all-spec : {M : Type 1} → statement M
 append-all-spec =

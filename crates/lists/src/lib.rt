@@ -10,7 +10,6 @@ ghost use Rattle.pool.specs.Lists.{listOf};
 ghost use Rattle.lists.specs.Appending.{need, append, appendIn, takeHead, takeBlock, appendAll};
 ghost use Rattle.lists.specs.Releasing.{fill, giveBlock, release};
 ghost use Rattle.lists.specs.Reach.{TileIn, BlockIn, Among, AllAmong, Appendable, Roomy, Takeable, Givable};
-
 use numbers::wide;
 use screen::Block;
 use screen::Tile;

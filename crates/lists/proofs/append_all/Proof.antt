@@ -11,7 +11,7 @@ use Rattle.lists.proofs.append_all.Statement.{statement}
 use Rattle.lists.proofs.append_all.Tie as tie
 
 abbrev Inv-loop : tie.InvT-loop
-Inv-loop pool₀ tiles named count id i₀ pool i = 
+Inv-loop pool₀ tiles named count id i₀ pool i =
     (i ≤ count) × (length pool ≡ length pool₀) × Appending pool tiles (drop i (take count named)) id (appendAll edition tiles pool₀ (take count named) id)
 
 abbrev μ-loop : tie.MeasureT-loop

@@ -14,7 +14,7 @@ use Rattle.lists.proofs.id_at.Statement.{statement}
 use Rattle.lists.proofs.id_at.Tie as tie
 
 abbrev Inv-loop : tie.InvT-loop
-Inv-loop pool tiles place link₀ left₀ link left = 
+Inv-loop pool tiles place link₀ left₀ link left =
     (t : ℕ) → Among pool tiles t → link₀ ≡ tileWord edition pool t 1 → place < tileWord edition pool t 0
     → Reading tiles (blocksOf pool) pool link left (getD (listOf edition tiles pool t) place 0)
 

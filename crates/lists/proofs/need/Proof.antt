@@ -14,7 +14,7 @@ use Rattle.lists.proofs.need.Statement.{statement}
 use Rattle.lists.proofs.need.Tie as tie
 
 abbrev Inv-loop : tie.InvT-loop
-Inv-loop pool tiles named count blocks₀ i₀ blocks i = 
+Inv-loop pool tiles named count blocks₀ i₀ blocks i =
     (i ≤ count) × (blocks ≤ i) × AllAmong pool tiles (drop i (take count named))
     × (blocks + need edition pool (drop i (take count named)) ≡ need edition pool (take count named))
 

@@ -11,7 +11,7 @@ use lib.ListN.{length, set}
 use lib.Seq.{getD-set-other}
 use Rattle.numbers.specs.Ceil.{ceil}
 use Rattle.numbers.proofs.Ceil.{eq-or-ne}
-use Rattle.pool.specs.Words.{Layout, Fair, start, room, headerWord, tileWord, blockWord}
+use Rattle.pool.specs.Words.{Layout, Fair, start, room, headerWord, tileWord, blockWord, tileSet, blockSet}
 use Rattle.pool.specs.State.{State, tileOf, linkTo, lastLink, one, times}
 use Rattle.pool.specs.Sound.{Shows}
 use Rattle.pool.proofs.Words.{start≤room, tile-set, tile-blockSet, block-tileSet, block-set, block-set-other-block, block-set-other-word}
@@ -20,7 +20,7 @@ use Rattle.pool.proofs.Parts.{ceil-none, ceil-some, ceil-full}
 use Rattle.pool.proofs.Chain.{Same, nil-of, uncons, unsnoc, lastLink-snoc}
 use Rattle.pool.proofs.Header.{Keeps}
 use Rattle.pool.proofs.State.{times≤, tile-block<, free-block<, apart, apart-free, free-apart}
-use Rattle.lists.specs.Appending.{pick, multiple, append, appendIn, appendFirst, appendNext}
+use Rattle.lists.specs.Appending.{pick, multiple, append, appendIn, takeBlock, appendFirst, appendNext}
 use Rattle.lists.specs.Steps.{appendState, inLast, inNew, withBlock}
 use Rattle.lists.specs.Promises.{Kept}
 use Rattle.lists.proofs.Within.{Within, within-then, within-tile, within-block}
@@ -165,3 +165,22 @@ module _ {L : Layout} {T N : ℕ} {p : List ℕ} {s : State} (A : Fair L) (R : S
       (let u = uncons (s .free) (omega (arith, ap one (eq-eqb (n % L .ids) 0 z))) in new-step t id (u .0) (u .1) (u .2) ht hid z))
       (λ (nz : n % L .ids ≢ 0). rw (ap (λ (m : ℕ). m % L .ids) (k .entries), ne-eqb (n % L .ids) 0 nz) (in-step t id ht hid nz))
       (eq-or-ne (n % L .ids) 0)
+
+-- ---- the three ways that an append goes: q are the words that are left
+
+module _ (L : Layout) (T : ℕ) (p : List ℕ) (t id : ℕ) (q : List ℕ) where
+  pub append-in : tileWord L p t 0 % L .ids ≢ 0 → q ≡ appendIn L T p t id → q ≡ append L T p t id
+  unfolding append
+  append-in nz f = f ∙ rw (ne-eqb (tileWord L p t 0 % L .ids) 0 nz)
+
+  module _ (r : List ℕ) (head : ℕ) (h : head ≡ headerWord p 5) (f : r ≡ takeBlock L T p t (head - 1) id) where
+    pub append-first : tileWord L p t 0 ≡ 0 → q ≡ tileSet L r t 1 head → q ≡ append L T p t id
+    unfolding append appendFirst
+    append-first z g =
+        let z′ : tileWord L p t 0 % L .ids ≡ 0 = ap (λ (n : ℕ). n % L .ids) z ∙ zero-mod (L .ids) in
+        g ∙ rw (f, h, eq-eqb (tileWord L p t 0 % L .ids) 0 z′, eq-eqb (tileWord L p t 0) 0 z)
+
+    pub append-next : (last : ℕ) → last ≡ tileWord L p t 2 → tileWord L p t 0 % L .ids ≡ 0 → tileWord L p t 0 ≢ 0
+        → q ≡ blockSet L T r (last - 1) (L .ids) head → q ≡ append L T p t id
+    unfolding append appendNext
+    append-next last e z nz g = g ∙ rw (f, h, e, eq-eqb (tileWord L p t 0 % L .ids) 0 z, ne-eqb (tileWord L p t 0) 0 nz)

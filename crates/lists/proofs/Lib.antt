@@ -7,3 +7,7 @@ pub mod Several
 pub mod Gives
 pub mod Releases
 pub mod Widening
+pub mod Reaches
+pub mod AppendLoop
+pub mod ReleaseLoop
+pub mod ReadLoop

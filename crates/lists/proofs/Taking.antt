@@ -16,7 +16,7 @@ use Rattle.pool.proofs.Times.{one-same, times-append, times-differ}
 use Rattle.pool.proofs.Parts.{ceil-suc-full}
 use Rattle.pool.proofs.Chain.{Same, frame, put-new, lastLink-snoc, linkTo-snoc}
 use Rattle.pool.proofs.State.{times≤, tile-once, apart, free-apart, in-range-snoc, tile-frame, shows-set}
-use Rattle.lists.specs.Appending.{takeBlock}
+use Rattle.lists.specs.Appending.{takeHead, takeBlock}
 use Rattle.lists.specs.Steps.{withBlock}
 use Rattle.lists.proofs.Within.{Within, within-then, within-header, within-tile, within-block}
 
@@ -33,7 +33,7 @@ pub record Taken (L : Layout) (T : ℕ) (p q : List ℕ) (t b id : ℕ) : Type 0
 
 module _ {L : Layout} {T N : ℕ} (A : Fair L) (p : List ℕ) (long : room L T N ≤ length p) (t b id : ℕ) (ht : t < T) (hb : b < N) where
   pub take-words : Taken L T p (takeBlock L T p t b id) t b id
-  unfolding takeBlock
+  unfolding takeBlock takeHead
   take-words =
       let tile0 : 0 < L .tile = omega (arith, A .tile>) in
       let tile2 : 2 < L .tile = A .tile> in
@@ -58,7 +58,7 @@ module _ {L : Layout} {T N : ℕ} (A : Fair L) (p : List ℕ) (long : room L T N
       }
 
   pub take-within : Within L T N p (takeBlock L T p t b id)
-  unfolding takeBlock
+  unfolding takeBlock takeHead
   take-within =
       let tile0 : 0 < L .tile = omega (arith, A .tile>) in
       let h4 : 4 < L .header = omega (arith, A .header>) in
@@ -71,7 +71,7 @@ module _ {L : Layout} {T N : ℕ} (A : Fair L) (p : List ℕ) (long : room L T N
 
   -- the tile's first block stays, and so does every other block
   pub take-first : tileWord L (takeBlock L T p t b id) t 1 ≡ tileWord L p t 1
-  unfolding takeBlock
+  unfolding takeBlock takeHead
   take-first =
       let tile1 : 1 < L .tile = omega (arith, A .tile>) in
       let h4 : 4 < L .header = omega (arith, A .header>) in
@@ -81,7 +81,7 @@ module _ {L : Layout} {T N : ℕ} (A : Fair L) (p : List ℕ) (long : room L T N
       simp (tile-set-other-word L, tile-blockSet L T, tile-headerSet L)
 
   pub take-same : (c : ℕ) → c ≢ b → Same (L .ids) (blockWord L T p) (blockWord L T (takeBlock L T p t b id)) c
-  unfolding takeBlock
+  unfolding takeBlock takeHead
   take-same c ne k hk =
       let tile0 : 0 < L .tile = omega (arith, A .tile>) in
       let tile2 : 2 < L .tile = A .tile> in

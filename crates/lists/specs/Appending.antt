@@ -24,16 +24,13 @@ unfoldable pub appendIn : Layout → (T : ℕ) → List ℕ → (t id : ℕ) →
 appendIn L T p t id =
     tileSet L (blockSet L T p (tileWord L p t 2 - 1) (tileWord L p t 0 % L .ids) id) t 0 (tileWord L p t 0 + 1)
 
--- block b, the head of the free chain, is taken for tile t, and the id stands in it
+-- block b, the head of the free chain, leaves it
+unfoldable pub takeHead : Layout → (T : ℕ) → List ℕ → (b : ℕ) → List ℕ
+takeHead L T p b = blockSet L T (headerSet (headerSet p 5 (blockWord L T p b (L .ids))) 4 (headerWord p 4 - 1)) b (L .ids) 0
+
+-- it is taken for tile t, and the id stands in it
 unfoldable pub takeBlock : Layout → (T : ℕ) → List ℕ → (t b id : ℕ) → List ℕ
-takeBlock L T p t b id =
-    tileSet L
-    (tileSet L
-    (blockSet L T
-    (blockSet L T (headerSet (headerSet p 5 (blockWord L T p b (L .ids))) 4 (headerWord p 4 - 1)) b (L .ids) 0)
-    b 0 id)
-    t 2 (b + 1))
-    t 0 (tileWord L p t 0 + 1)
+takeBlock L T p t b id = tileSet L (tileSet L (blockSet L T (takeHead L T p b) b 0 id) t 2 (b + 1)) t 0 (tileWord L p t 0 + 1)
 
 -- it is the tile's first block
 unfoldable pub appendFirst : Layout → (T : ℕ) → List ℕ → (t id : ℕ) → List ℕ

@@ -1,10 +1,11 @@
 -- What the functions on words ask of numbers: that the words that they name lie in the pool, and that what they count fits a word.
-use Prim.Native.Nat.{ℕ, suc, _+_, _*_, _-_, _^_, _<_}
+use Prim.Native.Nat.{ℕ, suc, _+_, _*_, _-_, _^_, _≤_, _<_}
 use mathlib.Core.Path.{_≡_}
 use mathlib.Core.List.{List}
 use lib.ListN.{length}
 use Rattle.pool.specs.Words.{edition, start, headerWord, tileWord}
 use Rattle.pool.specs.Sound.{Sound, tilesOf}
+use Rattle.lists.specs.Appending.{need, Distinct}
 
 -- word i of tile t lies in the pool
 abbrev pub TileIn : List ℕ → (t i : ℕ) → Type 0
@@ -19,6 +20,18 @@ pub record Among (p : List ℕ) (T t : ℕ) : Type 0 where
   pub sound : Sound edition p
   pub tiles : T ≡ tilesOf p
   pub tile : t < T
+
+-- a sound pool of T tiles, and some of its tiles, none of them twice
+pub record AllAmong (p : List ℕ) (T : ℕ) (ts : List ℕ) : Type 0 where
+  pub sound : Sound edition p
+  pub tiles : T ≡ tilesOf p
+  pub distinct : Distinct T ts
+
+-- such tiles, to which an id can be appended
+pub record Appendable (p : List ℕ) (T : ℕ) (ts : List ℕ) (id : ℕ) : Type 0 where
+  pub among : AllAmong p T ts
+  pub in-range : id < edition .limit
+  pub enough : need edition p ts ≤ headerWord p 4
 
 -- a tile whose last block has room
 pub record Roomy (p : List ℕ) (T t : ℕ) : Type 0 where

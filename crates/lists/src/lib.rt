@@ -6,6 +6,7 @@ ghost use Prim.Native.Nat.{_+_, _*_, _^_, _≤_, _<_, suc};
 ghost use lib.ListN.{length, take, getD};
 ghost use Rattle.numbers.specs.Ceil.{ceil};
 ghost use Rattle.pool.specs.Words.{edition, start, headerWord, tileWord, blockWord, headerSet, tileSet, blockSet};
+ghost use Rattle.pool.specs.Sound.{Sound};
 ghost use Rattle.pool.specs.Lists.{listOf};
 ghost use Rattle.lists.specs.Appending.{need, append, appendIn, takeHead, takeBlock, appendAll};
 ghost use Rattle.lists.specs.Releasing.{fill, giveBlock, release};
@@ -97,6 +98,23 @@ fn set_block_word(pool: &mut [u32], tiles: usize, block: Block, k: usize, value:
     ensures { λ r. ⌜ now (pool .exit) ≡ blockSet edition tiles (now (pool .entry)) (block .0) k value ⌝ }
 {
     pool[block_index(tiles, block, k)] = value;
+}
+
+// How many blocks are free.
+pub fn free(pool: &[u32]) -> u32
+    requires { ⌜ Sound edition (now pool) ⌝ }
+    ensures { λ r. ⌜ r ≡ headerWord (now (pool .entry)) 4 ⌝ }
+{
+    header_word(pool, FREE)
+}
+
+// How many entries a tile's list has.
+pub fn entries(pool: &[u32], tiles: usize, tile: Tile) -> u32
+    requires { ⌜ Among (now pool) tiles (tile .0) ⌝ }
+    ensures word { λ r. ⌜ r ≡ tileWord edition (now (pool .entry)) (tile .0) 0 ⌝ }
+    ensures list { λ r. ⌜ r ≡ length (listOf edition tiles (now (pool .entry)) (tile .0)) ⌝ }
+{
+    tile_word(pool, tile, ENTRIES)
 }
 
 // How many blocks an id more in each of the first `count` named tiles takes.

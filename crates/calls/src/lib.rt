@@ -1,6 +1,7 @@
 // The public calls. None asks anything of its caller: any words in the pool, any shape and any number are answered, and a refusal gives its
 // number, zero in every other field, and changes no word.
 use audit::Audited;
+use numbers::wide;
 use screen::Rectangle;
 use screen::Screen;
 use screen::Tile;
@@ -9,7 +10,7 @@ use shape::Shape;
 ghost use mathlib.Core.Path.{_≡_};
 ghost use Rattle.pool.specs.Words.{edition};
 ghost use Rattle.pool.specs.Opening.{OpenSays};
-ghost use Rattle.calls.specs.Tables.{AuditSays};
+ghost use Rattle.calls.specs.Tables.{AuditSays, ReadSays, ReleaseSays};
 ghost use Rattle.calls.specs.Questions.{QuestionSays, notAsked, BoxSays, CornerSays};
 
 // What a bin answers: its number, the tiles listed and the blocks taken.
@@ -53,6 +54,40 @@ pub fn audit(pool: &[u32]) -> u32
         return 4;
     };
     0
+}
+
+// Reads the id at a place of a tile's list, places counted from 0: 0 and the id, or 4, 9, 10 in that order.
+pub fn read(pool: &[u32], tile: Tile, place: u32) -> Found
+    ensures { λ r. ⌜ ReadSays (now (pool .entry)) (tile .0) place r ⌝ }
+{
+    let audited = audit::audit(pool);
+    let Audited::Sound(header) = audited else {
+        return Found { number: 4, id: 0 };
+    };
+    if header.tiles <= tile.0 {
+        return Found { number: 9, id: 0 };
+    }
+    let tiles = wide(header.tiles);
+    if lists::entries(pool, tiles, tile) <= place {
+        return Found { number: 10, id: 0 };
+    }
+    let id = lists::id_at(pool, tiles, tile, place);
+    Found { number: 0, id }
+}
+
+// Empties a tile's list and gives its blocks back: 0 and how many these were, or 4, 9 in that order.
+pub fn release(pool: &mut [u32], tile: Tile) -> Released
+    ensures { λ r. ⌜ ReleaseSays (now (pool .entry)) (tile .0) r (now (pool .exit)) ⌝ }
+{
+    let audited = audit::audit(pool);
+    let Audited::Sound(header) = audited else {
+        return Released { number: 4, blocks: 0 };
+    };
+    if header.tiles <= tile.0 {
+        return Released { number: 9, blocks: 0 };
+    }
+    let blocks = lists::release(pool, wide(header.tiles), tile);
+    Released { number: 0, blocks }
 }
 
 // The rectangle that a question is about, or the number that it is refused with.

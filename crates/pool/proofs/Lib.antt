@@ -7,3 +7,6 @@ pub mod State
 pub mod Total
 pub mod Unique
 pub mod Header
+pub mod Rising
+pub mod Written
+pub mod Opening

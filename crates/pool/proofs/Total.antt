@@ -79,3 +79,10 @@ module _ {L : Layout} {T N : ℕ} {p : List ℕ} {s : State} (R : Shows L T N p 
   entries≤ A t ht =
       let w : L .ids * length (tileOf s t .blocks) ≤ L .ids * N = mul-le-mul-left (L .ids) (chain≤ t) in
       omega (arith, blocks-enough A (R .tile t ht))
+
+  -- the same of the words
+  pub free-count≤ : headerWord p 4 ≤ N
+  free-count≤ = rw (R .count) free≤
+
+  pub entry-count≤ : Fair L → (t : ℕ) → t < T → tileWord L p t 0 ≤ L .ids * N
+  entry-count≤ A t ht = rw (R .tile t ht .entries) (entries≤ A t ht)

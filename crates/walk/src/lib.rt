@@ -1,0 +1,1 @@
+// The row walk: the tiles that a shape touches, once each, in rising number.

@@ -11,3 +11,4 @@ pub mod Reaches
 pub mod AppendLoop
 pub mod ReleaseLoop
 pub mod ReadLoop
+pub mod Named

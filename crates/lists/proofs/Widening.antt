@@ -9,13 +9,15 @@ use native.Mathlib.Omega.{arith}
 use lib.ListN.{length, length-append}
 use Rattle.numbers.proofs.Ceil.{eq-or-ne}
 use Rattle.screen.specs.declared.Screen.{Screen}
-use Rattle.screen.specs.Screen.{tiles}
+use Rattle.screen.specs.Screen.{Allowed, tiles}
 use Rattle.pool.specs.Words.{Layout, Fair, room, headerWord, tileWord, blockWord}
 use Rattle.pool.specs.State.{State, tileOf, one, times}
 use Rattle.pool.specs.Sound.{Opened, Shows, Sound, screenOf, tilesOf, blocksOf}
 use Rattle.pool.specs.Lists.{listOf}
-use Rattle.pool.specs.Opening.{rising, openingState}
+use Rattle.pool.specs.Opening.{rising, headerFor, opening, openingState}
 use Rattle.pool.proofs.Times.{one-same, times-append, times-head, times-tail}
+use Rattle.pool.proofs.Rising.{length-rising, times-rising}
+use Rattle.pool.proofs.Opening.{opening-screen, opening-tiles, opening-blocks, opening-opened, opening-shows}
 use Rattle.pool.proofs.Chain.{holds-nothing}
 use Rattle.pool.proofs.Lists.{listOf-shows}
 use Rattle.pool.proofs.Header.{Keeps, keeps-screen, keeps-tiles, keeps-blocks, keeps-opened}
@@ -26,26 +28,6 @@ use Rattle.lists.specs.Wider.{widen, Wider}
 use Rattle.lists.proofs.Counts.{append-free, need-other, need-shows, distinct-first, distinct-rest}
 use Rattle.lists.proofs.Several.{append-all-shows}
 use Rattle.lists.proofs.Releases.{release-shows}
-
--- ---- the numbers from a place on
-
-length-rising : (a n : ℕ) → length (rising a n) ≡ n
-length-rising a zero = refl
-length-rising a (suc n) = ap suc (length-rising (suc a) n)
-
-rising-has : (b a n : ℕ) → a ≤ b → b < a + n → 0 < times b (rising a n)
-rising-has b a zero lo hi = absurd (omega arith)
-rising-has b a (suc n) lo hi =
-    ⊎-elim (λ (e : a ≡ b). rw e (times-head b (rising (suc b) n)))
-    (λ (ne : a ≢ b). times-tail b a (rising (suc a) n) (rising-has b (suc a) n (omega arith) (omega arith)))
-    (eq-or-ne a b)
-
-rising-more : (a k n : ℕ) → rising a k ++ rising (a + k) n ≡ rising a (k + n)
-rising-more a zero n = let e : a + 0 ≡ a = omega arith in let f : 0 + n ≡ n = omega arith in rw (e, f)
-rising-more a (suc k) n =
-    let e : a + suc k ≡ suc a + k = omega arith in
-    let f : suc k + n ≡ suc (k + n) = omega arith in
-    rw (e, f) (ap (λ (l : List ℕ). a ∷ l) (rising-more (suc a) k n))
 
 -- ---- the steps do not see the blocks at the end of the free chain
 
@@ -89,6 +71,16 @@ widen-append-all ids T N n s (t ∷ ts) id D h =
 pub widen-release : (N n : ℕ) (s : State) (t : ℕ) → releaseState (widen N n s) t ≡ widen N n (releaseState s t)
 widen-release N n s t = rw (onto-more (tileOf s t .blocks) (s .free) (rising N n))
 
+rising-more : (a k n : ℕ) → rising a k ++ rising (a + k) n ≡ rising a (k + n)
+rising-more a zero n =
+    let e : a + 0 ≡ a = omega arith in
+    let f : 0 + n ≡ n = omega arith in
+    rw (e, f)
+rising-more a (suc k) n =
+    let e : a + suc k ≡ suc a + k = omega arith in
+    let f : suc k + n ≡ suc (k + n) = omega arith in
+    rw (e, f) (ap (λ (l : List ℕ). a ∷ l) (rising-more (suc a) k n))
+
 pub widen-opening : (T N n : ℕ) → openingState T (N + n) ≡ widen N n (openingState T N)
 widen-opening T N n = let z : 0 + N ≡ N = omega arith in rw (← rising-more 0 N n, z)
 
@@ -129,7 +121,7 @@ module _ {L : Layout} {n : ℕ} {p w : List ℕ} {s : State} (A : Fair L) (W : W
   pub wider-poison : (b : ℕ) → blocksOf p ≤ b → b < blocksOf p + n → (k : ℕ) → k < L .ids → blockWord L (tilesOf p) w b k ≡ L .poison
   wider-poison b lo hi =
       holds-nothing (L .ids) (L .poison) (blockWord L (tilesOf p) w) (s .free ++ rising (blocksOf p) n) b
-      (omega (arith, times-append b (s .free) (rising (blocksOf p) n), rising-has b (blocksOf p) n lo hi)) (W .shows′ .poisoned)
+      (omega (arith, times-append b (s .free) (rising (blocksOf p) n), times-rising b (blocksOf p) n lo hi)) (W .shows′ .poisoned)
 
   room′ : room L (tilesOf p) (blocksOf p + n) ≤ length w
   room′ = subst (λ (k : ℕ). k ≤ length w) (λ i. room L (wider-tiles i) (W .blocks i)) (W .opened′ .long)
@@ -167,3 +159,24 @@ module _ {L : Layout} {n : ℕ} {p w : List ℕ} {s : State} (A : Fair L) (W : W
       let J = release-shows A (W .shows′) room′ t ht in
       wider-with (record { long = I .1 .long; fixed = I .1 .header }) (record { long = J .1 .long; fixed = J .1 .header }) (releaseState s t) (I .0)
       (subst (λ (r : State). Shows L (tilesOf p) (N + n) (release L (tilesOf p) w t) r) (widen-release N n s t) (J .0))
+
+-- two openings for one screen, the second with n blocks more
+pub wider-opening : {L : Layout} (A : Fair L) (d : Screen) (N n : ℕ) (p w : List ℕ) → ((M : ℕ) → length (headerFor L d M) ≡ L .header) → Allowed d → N + n ≤ 2048
+    → room L (tiles d) N ≤ length p → room L (tiles d) (N + n) ≤ length w → Wider L n (opening L d N p) (opening L d (N + n) w) (openingState (tiles d) N)
+wider-opening {L} A d N n p w fits allowed few long long′ =
+    let p′ = opening L d N p in
+    let w′ = opening L d (N + n) w in
+    let s = openingState (tiles d) N in
+    let T = opening-tiles L d N p (fits N) A in
+    let B = opening-blocks L d N p (fits N) A in
+    record {
+      opened = opening-opened L d N p (fits N) A allowed (omega arith) long;
+      opened′ = opening-opened L d (N + n) w (fits (N + n)) A allowed few long′;
+      screens = opening-screen L d (N + n) w (fits (N + n)) A ∙ sym (opening-screen L d N p (fits N) A);
+      blocks = opening-blocks L d (N + n) w (fits (N + n)) A ∙ ap (λ (m : ℕ). m + n) (sym B);
+      shows = subst (λ (t : ℕ). Shows L t (blocksOf p′) p′ s) (sym T)
+          (subst (λ (m : ℕ). Shows L (tiles d) m p′ s) (sym B) (opening-shows L d N p (fits N) A));
+      shows′ = subst (λ (t : ℕ). Shows L t (blocksOf p′ + n) w′ (widen (blocksOf p′) n s)) (sym T)
+          (subst (λ (m : ℕ). Shows L (tiles d) (m + n) w′ (widen m n s)) (sym B)
+          (subst (λ (r : State). Shows L (tiles d) (N + n) w′ r) (widen-opening (tiles d) N n) (opening-shows L d (N + n) w (fits (N + n)) A)));
+    }

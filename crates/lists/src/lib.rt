@@ -12,17 +12,13 @@ ghost use Rattle.lists.specs.Appending.{need, append, appendIn, takeHead
 ghost use Rattle.lists.specs.Releasing.{fill, giveBlock, release};
 ghost use Rattle.lists.specs.Reach.{TileIn, BlockIn, Among, AllAmong, Appendable, Roomy, Takeable, Givable};
 use numbers::wide;
+use pool::BLOCK_IDS;
+use pool::BLOCK_WORDS;
+use pool::HEADER_WORDS;
+use pool::POISON;
+use pool::TILE_WORDS;
 use screen::Block;
 use screen::Tile;
-
-// The layout: words of the header and of a tile, ids in a block, and poison.
-const HEADER: usize = 8;
-
-const TILE: usize = 3;
-
-const IDS: usize = 31;
-
-const POISON: u32 = 0xDEADBEEF;
 
 // The words of the header that change: free blocks, and the first of them + 1.
 const FREE: usize = 4;
@@ -35,6 +31,9 @@ const ENTRIES: usize = 0;
 const FIRST: usize = 1;
 
 const LAST: usize = 2;
+
+// The link of a block comes after its ids.
+const LINK: usize = BLOCK_IDS;
 
 // Word k of the header.
 fn header_word(pool: &[u32], k: usize) -> u32
@@ -57,7 +56,7 @@ fn tile_index(tile: Tile, i: usize) -> usize
     requires { ⌜ edition .header + edition .tile * tile .0 + i < 2 ^ 64 ⌝ }
     ensures { λ r. ⌜ r ≡ edition .header + edition .tile * tile .0 + i ⌝ }
 {
-    HEADER + TILE * wide(tile.0) + i
+    HEADER_WORDS + TILE_WORDS * wide(tile.0) + i
 }
 
 // Where word k of a block stands, in a pool of that many tiles.
@@ -65,7 +64,7 @@ fn block_index(tiles: usize, block: Block, k: usize) -> usize
     requires { ⌜ start edition tiles + suc (edition .ids) * block .0 + k < 2 ^ 64 ⌝ }
     ensures { λ r. ⌜ r ≡ start edition tiles + suc (edition .ids) * block .0 + k ⌝ }
 {
-    HEADER + TILE * tiles + (IDS + 1) * wide(block.0) + k
+    HEADER_WORDS + TILE_WORDS * tiles + BLOCK_WORDS * wide(block.0) + k
 }
 
 // Word i of a tile.
@@ -84,7 +83,7 @@ fn set_tile_word(pool: &mut [u32], tile: Tile, i: usize, value: u32)
     pool[tile_index(tile, i)] = value;
 }
 
-// Word k of a block; word IDS is its link.
+// Word k of a block.
 fn block_word(pool: &[u32], tiles: usize, block: Block, k: usize) -> u32
     requires { ⌜ BlockIn tiles (now pool) (block .0) k ⌝ }
     ensures { λ r. ⌜ r ≡ blockWord edition tiles (now (pool .entry)) (block .0) k ⌝ }
@@ -126,7 +125,7 @@ pub fn need(pool: &[u32], tiles: usize, named: &[u32], count: usize) -> usize
     let mut i = 0;
     while i < count {
         let entries = tile_word(pool, Tile(named[i]), ENTRIES);
-        if wide(entries) % IDS == 0 {
+        if wide(entries) % BLOCK_IDS == 0 {
             blocks += 1;
         }
         i += 1;
@@ -141,7 +140,7 @@ fn put_in_last(pool: &mut [u32], tiles: usize, tile: Tile, id: u32)
 {
     let entries = tile_word(pool, tile, ENTRIES);
     let last = tile_word(pool, tile, LAST);
-    set_block_word(pool, tiles, Block(last - 1), wide(entries) % IDS, id);
+    set_block_word(pool, tiles, Block(last - 1), wide(entries) % BLOCK_IDS, id);
     set_tile_word(pool, tile, ENTRIES, entries + 1);
 }
 
@@ -151,10 +150,10 @@ fn take_head(pool: &mut [u32], tiles: usize, block: Block)
     ensures { λ r. ⌜ now (pool .exit) ≡ takeHead edition tiles (now (pool .entry)) (block .0) ⌝ }
 {
     let free = header_word(pool, FREE);
-    let next = block_word(pool, tiles, block, IDS);
+    let next = block_word(pool, tiles, block, LINK);
     set_header_word(pool, FIRST_FREE, next);
     set_header_word(pool, FREE, free - 1);
-    set_block_word(pool, tiles, block, IDS, 0);
+    set_block_word(pool, tiles, block, LINK, 0);
 }
 
 // The head of the free chain is taken for a tile, with one id in it.
@@ -176,7 +175,7 @@ pub fn append(pool: &mut [u32], tiles: usize, tile: Tile, id: u32)
     ensures { λ r. ⌜ now (pool .exit) ≡ append edition tiles (now (pool .entry)) (tile .0) id ⌝ }
 {
     let entries = tile_word(pool, tile, ENTRIES);
-    if wide(entries) % IDS != 0 {
+    if wide(entries) % BLOCK_IDS != 0 {
         put_in_last(pool, tiles, tile, id);
         return;
     }
@@ -186,7 +185,7 @@ pub fn append(pool: &mut [u32], tiles: usize, tile: Tile, id: u32)
     if entries == 0 {
         set_tile_word(pool, tile, FIRST, head);
     } else {
-        set_block_word(pool, tiles, Block(last - 1), IDS, head);
+        set_block_word(pool, tiles, Block(last - 1), LINK, head);
     }
 }
 
@@ -208,7 +207,7 @@ fn poison(pool: &mut [u32], tiles: usize, block: Block)
     ensures { λ r. ⌜ now (pool .exit) ≡ fill edition tiles (now (pool .entry)) (block .0) (edition .ids) ⌝ }
 {
     let mut k = 0;
-    while k < IDS {
+    while k < BLOCK_IDS {
         set_block_word(pool, tiles, block, k, POISON);
         k += 1;
     }
@@ -222,7 +221,7 @@ fn give_block(pool: &mut [u32], tiles: usize, block: Block)
     let head = header_word(pool, FIRST_FREE);
     let free = header_word(pool, FREE);
     poison(pool, tiles, block);
-    set_block_word(pool, tiles, block, IDS, head);
+    set_block_word(pool, tiles, block, LINK, head);
     set_header_word(pool, FIRST_FREE, block.0 + 1);
     set_header_word(pool, FREE, free + 1);
 }
@@ -237,7 +236,7 @@ pub fn release(pool: &mut [u32], tiles: usize, tile: Tile) -> u32
     let mut given: u32 = 0;
     while link != 0 {
         let block = Block(link - 1);
-        link = block_word(pool, tiles, block, IDS);
+        link = block_word(pool, tiles, block, LINK);
         give_block(pool, tiles, block);
         given += 1;
     }
@@ -255,9 +254,9 @@ pub fn id_at(pool: &[u32], tiles: usize, tile: Tile, place: u32) -> u32
 {
     let mut link = tile_word(pool, tile, FIRST);
     let mut left = wide(place);
-    while IDS <= left {
-        link = block_word(pool, tiles, Block(link - 1), IDS);
-        left -= IDS;
+    while BLOCK_IDS <= left {
+        link = block_word(pool, tiles, Block(link - 1), LINK);
+        left -= BLOCK_IDS;
     }
     block_word(pool, tiles, Block(link - 1), left)
 }

@@ -13,36 +13,23 @@ add-result : tie.Need-add-result
 unfolding start
 add-result c = omega arith
 
-add-result-2 : tie.Need-add-result-2
-add-result-2 c = search needs
-
 wide-requires : tie.Need-wide-requires
 wide-requires c κs = search needs
 
 mul-result-2 : tie.Need-mul-result-2
 mul-result-2 c = search needs
 
+add-result-2 : tie.Need-add-result-2
+unfolding start
+add-result-2 c = omega arith
+
 add-result-3 : tie.Need-add-result-3
 unfolding start
 add-result-3 c = omega arith
-
-add-result-4 : tie.Need-add-result-4
-unfolding start
-add-result-4 c = omega arith
 
 returns : tie.Need-returns
 unfolding start
 returns c = omega arith
 
 pub block-index-spec : {M : Type 1} → statement M
-block-index-spec =
-    tie.close
-    (tie.spec
-    mul-result
-    add-result
-    add-result-2
-    wide-requires
-    mul-result-2
-    add-result-3
-    add-result-4
-    returns)
+block-index-spec = tie.close (tie.spec mul-result add-result wide-requires mul-result-2 add-result-2 add-result-3 returns)

@@ -1,1 +1,2 @@
-pub mod Touched
+pub mod Lists
+pub mod Row

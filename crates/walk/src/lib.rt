@@ -1,0 +1,1 @@
+// The tiles that a shape touches, found row by row and left to right.

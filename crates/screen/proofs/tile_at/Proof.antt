@@ -6,10 +6,10 @@ use Rattle.screen.proofs.tile_at.Statement.{statement}
 use Rattle.screen.proofs.tile_at.Tie as tie
 
 mul-t4 : tie.Need-mul-t4
-mul-t4 c = let w = mul-le-mul (le-of-lt (c .pre .1)) (c .pre .2) in omega arith
+mul-t4 c = omega (arith, mul-le-mul (le-of-lt (c .pre .1)) (c .pre .2), mul-le-mul (le-of-lt (c .pre .0)) (c .pre .2))
 
 add-t5 : tie.Need-add-t5
-add-t5 c = let w = mul-le-mul (le-of-lt (c .pre .1)) (c .pre .2) in omega arith
+add-t5 c = omega (arith, mul-le-mul (le-of-lt (c .pre .1)) (c .pre .2), mul-le-mul (le-of-lt (c .pre .0)) (c .pre .2))
 
 returns : tie.Need-returns
 returns c = search needs

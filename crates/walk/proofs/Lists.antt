@@ -7,10 +7,10 @@ use native.Mathlib.Decide.{decLe}
 use native.Mathlib.Omega.{arith}
 use lib.ListN.{length, getD, set, take, length-set, length-take}
 use lib.Seq.{getD-set-same, getD-set-other, getD-take, ext-getD}
-use Rattle.walk.specs.Lists.{Place, Lists}
-use Rattle.walk.specs.Row.{Run, Below}
+use Rattle.walk.specs.Lists.{Below, Place, Lists}
+use Rattle.walk.specs.Row.{Run}
 
-under-or : (i n : ℕ) → (i < n) ⊎ (n ≤ i)
+pub under-or : (i n : ℕ) → (i < n) ⊎ (n ≤ i)
 under-or i n = go (decLe n i)
   where
     go : Dec (n ≤ i) → (i < n) ⊎ (n ≤ i)
@@ -165,9 +165,10 @@ module _ {P : ℕ → Type 0} where
   far-enough l zero h = omega arith
   far-enough l (suc i) h = let a = far-enough l i (omega arith) in let b = l .rising i (suc i) (omega arith) h in omega arith
 
-  pub lists-few : {m n : ℕ} {old new : List ℕ} → Lists P n old new → ((t : ℕ) → P t → t < m) → n ≤ m
-  lists-few {m} {zero} l h = omega arith
-  lists-few {m} {suc n} {old} {new} l h = let a = far-enough l n (omega arith) in let b = h (getD new n 0) (l .sound n (omega arith)) in omega arith
+  pub lists-few : {m : ℕ} (n : ℕ) {old new : List ℕ} → Lists P n old new → ((t : ℕ) → P t → t < m) → n ≤ m
+  lists-few zero l h = omega arith
+  lists-few (suc n) {new = new} l h =
+      let a = far-enough l n (omega arith) in let b = h (getD new n 0) (l .sound n (omega arith)) in omega arith
 
   level : {n : ℕ} {old new : List ℕ} → Lists P n old new → (i j : ℕ) → i ≤ j → j < n → getD new i 0 ≤ getD new j 0
   level {n} {old} {new} l i j h k = go (under-or i j)

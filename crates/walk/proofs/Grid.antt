@@ -6,27 +6,42 @@ use mathlib.Core.Logic.{_↔_}
 use native.Mathlib.Omega.{arith}
 use native.Mathlib.Nat.{mul-le-mul-left}
 use lib.ListN.{length, getD, set}
+use Rattle.numbers.proofs.Diff.{≤ℤ-trans}
 use Rattle.screen.specs.declared.Screen.{Screen}
 use Rattle.screen.specs.declared.Span.{Span}
 use Rattle.screen.specs.declared.Rectangle.{Rectangle}
-use Rattle.screen.specs.Screen.{Allowed, columns, rows, tiles, columnOf, rowOf, tileAt}
+use Rattle.screen.specs.Screen.{Allowed, across, columns, rows, tiles, columnOf, rowOf, tileAt}
 use Rattle.screen.specs.Rectangle.{near, far, rectangleAt, rectangle, Meets, In, Meeting}
-use Rattle.screen.proofs.Laws.{rectangle-proper, columns≥, column-row, column<, row<, row-is, column-is, tile<}
+use Rattle.screen.proofs.Laws.{near≥, near-far, far≤, rectangle-proper, columns≥, column-row, column<, row<, row-is, column-is, tile<}
 use Rattle.shape.specs.declared.Shape.{Shape}
 use Rattle.touch.specs.declared.Edges.{Edges}
 use Rattle.touch.specs.declared.RowEdges.{RowEdges}
 use Rattle.touch.specs.Touches.{Touches}
 use Rattle.touch.specs.Corner.{bounds, three, Overlap}
-use Rattle.touch.specs.Edges.{starts, Outline, rowEdges}
+use Rattle.touch.specs.Edges.{starts, Outline, rowEdges, Within}
 use Rattle.touch.proofs.Gaps.{row-of-tiles-has-no-gap}
+use Rattle.touch.proofs.Sizes.{side-within}
 use Rattle.touch.proofs.Theorem.{touching-meets-box, outline-clear-is-touching}
 use Rattle.walk.specs.Lists.{IsTouched, Below, Lists, ListsBefore}
 use Rattle.walk.specs.Row.{ClearIn, First, Run, RunIn, shapeOf, MeetingColumns, MeetingRows, MeetsRow}
 use Rattle.walk.proofs.Lists.{lists-none, lists-iff, lists-run, lists-skip, run-none, run-more}
 
+-- ---- the sides of a tile are of a size that the test takes
+
+module _ (extent s : ℕ) (e≤ : extent ≤ 4096) (s≥ : 3 ≤ s) (s≤ : s ≤ 6) {k : ℕ} (k< : k < across extent s) where
+  pub near-within : Within 524288 (near extent s k)
+  near-within = side-within (near≥ extent s e≤ s≥ s≤ k<) (≤ℤ-trans (near-far extent s e≤ s≥ s≤ k<) (far≤ extent s e≤ s≥ s≤ k<))
+
+  pub far-within : Within 524288 (far extent s k)
+  far-within = side-within (≤ℤ-trans (near≥ extent s e≤ s≥ s≤ k<) (near-far extent s e≤ s≥ s≤ k<)) (far≤ extent s e≤ s≥ s≤ k<)
+
 -- ---- the tiles of a row
 
 module _ (d : Screen) (a : Allowed d) where
+  -- there is room for the tiles of a row and of those before it
+  pub row-room : {row : ℕ} → row < rows d → row * columns d + columns d ≤ 4096
+  row-room {row} h = let t = a .tiles≤ in let w : columns d * (row + 1) ≤ columns d * rows d = mul-le-mul-left (columns d) (omega arith) in omega arith
+
   -- the tile in a column and a row has their rectangle
   tile-rectangle : (column row : ℕ) → column < columns d → rectangle d (row * columns d + column) ≡ rectangleAt d column row
   tile-rectangle column row h = λ i. rectangleAt d (column-is d a column row h i) (row-is d a column row h i)

@@ -17,6 +17,13 @@ under-or i n = go (decLe n i)
     go (yes p) = inr p
     go (no p) = inl (omega arith)
 
+-- what holds from a number on and before n, and at n, holds before n + 1
+pub up-to : {P : ℕ → Type 0} {from n : ℕ} → ((k : ℕ) → from ≤ k → k < n → P k) → P n → (k : ℕ) → from ≤ k → k < n + 1 → P k
+up-to {P} {from} {n} f p k l h = go (under-or k n)
+  where
+    go : (k < n) ⊎ (n ≤ k) → P k
+    go = ⊎-elim (λ (u : k < n). f k l u) (λ (u : n ≤ k). subst P (omega arith) p)
+
 -- ---- growing
 
 module _ (P : ℕ → Type 0) where
@@ -137,15 +144,12 @@ module _ (Q : ℕ → Type 0) (base : ℕ) where
         size = length-set new n (base + stop) ∙ r .size;
         from≤ = omega arith;
         as-many = omega arith;
-        all = λ k l g. all k l g (under-or k stop);
+        all = up-to (r .all) q;
         written = λ i l g. written i l g (under-or i n);
         under = λ i l. getD-set-other new n i (base + stop) 0 (λ d. omega arith) ∙ r .under i l;
         over = λ i l. getD-set-other new n i (base + stop) 0 (λ d. omega arith) ∙ r .over i (omega arith);
       }
     where
-      all : (k : ℕ) → from ≤ k → k < stop + 1 → (k < stop) ⊎ (stop ≤ k) → Q k
-      all k l g = ⊎-elim (λ (u : k < stop). r .all k l u) (λ (u : stop ≤ k). subst Q (omega arith) q)
-
       written : (i : ℕ) → count ≤ i → i < n + 1 → (i < n) ⊎ (n ≤ i) → getD (set new n (base + stop)) i 0 + count ≡ base + from + i
       written i l g =
           ⊎-elim

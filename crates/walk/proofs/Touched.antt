@@ -92,9 +92,9 @@ lists-walked {d} {shape} {n} {old} {new} room l =
             touched = λ i h. subst (IsTouched d shape) (sym (getD-take n new i 0 (omega arith))) (l .sound i (omega arith));
             all =
                 λ t h p.
-                    let w = l .whole t (h, p) in
-                    let b = w .before in
-                    (w .index, omega arith, getD-take n new (w .index) 0 b ∙ w .there);
+                let w = l .whole t (h, p) in
+                let b = w .before in
+                (w .index, omega arith, getD-take n new (w .index) 0 b ∙ w .there);
           };
       few = few;
       size = l .size;

@@ -45,15 +45,23 @@ fn first_clear(screen: Screen, edges: RowEdges, span: Span) -> u32
 }
 
 // Writes the numbers of the tiles in the run that starts with the span, from place count on, and answers the place after the last.
-fn append_run(screen: Screen, edges: RowEdges, base: u32, span: Span, list: &mut [u32], count: u32) -> u32
+fn append_run(
+    screen: Screen,
+    edges: RowEdges,
+    base: u32,
+    span: Span,
+    list: &mut [u32],
+    count: u32,
+) -> u32
     requires { ⌜ (Allowed screen) × (RowEdgesRange edges) × (span .end ≤ columns screen) × (span .start ≤ span .end) ⌝ }
     requires { ⌜ (count ≤ base + span .start) × (base + span .end ≤ 4096) × (4096 ≤ length (now list)) ⌝ }
     ensures { λ r. ⌜ RunIn (ClearIn screen edges) base span count r (now (list .entry)) (now (list .exit)) ⌝ }
 {
-    let end = span.end;
-    let mut column = span.start;
+    let start = span.start;
+    let past = span.end;
+    let mut column = start;
     let mut n = count;
-    while column < end {
+    while column < past {
         if !clear_in(screen, edges, column) {
             return n;
         }
@@ -83,7 +91,17 @@ fn walk_row(screen: Screen, edges: Edges, row: u32, span: Span, list: &mut [u32]
     let base = row * screen::columns_of(screen);
     let at = wide(count);
     list[at] = base + first;
-    append_run(screen, in_row, base, Span { start: first + 1, end }, list, count + 1)
+    append_run(
+        screen,
+        in_row,
+        base,
+        Span {
+            start: first + 1,
+            end,
+        },
+        list,
+        count + 1,
+    )
 }
 
 // Lists the tiles that the shape of the edges touches, in the columns and rows that meet its bounding box, and answers how many.

@@ -10,11 +10,11 @@ use Rattle.walk.proofs.append_run.Statement.{statement}
 use Rattle.walk.proofs.append_run.Tie as tie
 
 abbrev Inv-loop : tie.InvT-loop
-Inv-loop screen edges base list₀ count end column₀ n₀ list column n =
-    (column ≤ end) × Run (ClearIn screen edges) base column₀ column count n list₀ list
+Inv-loop screen edges base list₀ count start past column₀ n₀ list column n =
+    (column ≤ past) × Run (ClearIn screen edges) base start column count n list₀ list
 
 abbrev μ-loop : tie.MeasureT-loop
-μ-loop screen edges base list₀ count end column₀ n₀ list column n = end - column
+μ-loop screen edges base list₀ count start past column₀ n₀ list column n = past - column
 
 loop-holds : tie.Need-loop-holds Inv-loop μ-loop
 loop-holds c = (search needs, run-none _ _ _ _ _)

@@ -27,8 +27,7 @@ row-edges-requires c κs =
     let d = s .args .screen in
     let ok = s .pre .0 .0 in
     let top = is-call w64 (c .before .near-side .ok) (c .before .near-side .ensures) .same in
-    let bottom = is-call w64 (c .far-side .ok) (c .far-side .ensures) .same in
-    (
+    let bottom = is-call w64 (c .far-side .ok) (c .far-side .ensures) .same in (
       outline-range (s .pre .0 .1),
       subst (Within 524288) (sym top) (near-within (d .height) (d .s) (ok .height≤) (ok .s≥) (ok .s≤) (s .pre .1 .0 .0)),
       subst (Within 524288) (sym bottom) (far-within (d .height) (d .s) (ok .height≤) (ok .s≥) (ok .s≤) (s .pre .1 .0 .0)),
@@ -41,11 +40,10 @@ first-clear-requires c κs =
     let ok = s .pre .0 .0 in
     let top = is-call w64 (c .before .before .near-side .ok) (c .before .before .near-side .ensures) .same in
     let bottom = is-call w64 (c .before .far-side .ok) (c .before .far-side .ensures) .same in
-    let edges = c .row-edges .ensures ∙ (λ i. rowEdges (s .args .edges) (top i) (bottom i)) in
-    (
+    let edges = c .row-edges .ensures ∙ (λ i. rowEdges (s .args .edges) (top i) (bottom i)) in (
       ok,
       subst RowEdgesRange (sym edges)
-      (row-edges-range (outline-range (s .pre .0 .1)) (near-within (d .height) (d .s) (ok .height≤) (ok .s≥) (ok .s≤) (s .pre .1 .0 .0)) (far-within (d .height) (d .s) (ok .height≤) (ok .s≥) (ok .s≤) (s .pre .1 .0 .0))),
+          (row-edges-range (outline-range (s .pre .0 .1)) (near-within (d .height) (d .s) (ok .height≤) (ok .s≥) (ok .s≤) (s .pre .1 .0 .0)) (far-within (d .height) (d .s) (ok .height≤) (ok .s≥) (ok .s≤) (s .pre .1 .0 .0))),
       s .pre .0 .2 .within,
     )
 
@@ -98,7 +96,7 @@ append-run-requires c κs =
       (
         ok,
         subst RowEdgesRange (sym edges)
-      (row-edges-range (outline-range (s .pre .0 .1)) (near-within (d .height) (d .s) (ok .height≤) (ok .s≥) (ok .s≤) (s .pre .1 .0 .0)) (far-within (d .height) (d .s) (ok .height≤) (ok .s≥) (ok .s≤) (s .pre .1 .0 .0))),
+            (row-edges-range (outline-range (s .pre .0 .1)) (near-within (d .height) (d .s) (ok .height≤) (ok .s≥) (ok .s≤) (s .pre .1 .0 .0)) (far-within (d .height) (d .s) (ok .height≤) (ok .s≥) (ok .s≤) (s .pre .1 .0 .0))),
         within,
         omega arith,
       ),

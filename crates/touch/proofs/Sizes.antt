@@ -19,7 +19,7 @@ use Rattle.touch.specs.declared.Three.{Three}
 use Rattle.touch.specs.declared.Edge.{Edge}
 use Rattle.touch.specs.declared.Edges.{Edges}
 use Rattle.touch.specs.Corner.{three, greater, bounds}
-use Rattle.touch.specs.Edges.{AllPlaced, edgeOf, edgesOf, starts, Outline, rowEdge, rowEdges, Within, EdgeRange, EdgesRange, RowEdgeRange, RowEdgesRange}
+use Rattle.touch.specs.Edges.{AllPlaced, edgeOf, edgesOf, Outline, rowEdge, rowEdges, Within, EdgeRange, EdgesRange, RowEdgeRange, RowEdgesRange}
 
 pub is-within : {z : ℤ} {size : ℕ} → Within size z → Is z z size
 is-within h = record { same = refl; size = h .abs }

@@ -1,29 +1,25 @@
 -- A row of the walk: what its columns' tests say of its tiles, and how its run adds the touched tiles of the row to those of the rows before it.
 use Prim.Native.Nat.{ℕ, _+_, _*_, _-_, _≤_, _<_}
-use mathlib.Core.Path.{_≡_, refl, sym, ap, subst, _∙_}
+use mathlib.Core.Path.{_≡_, sym, ap, subst, _∙_}
 use mathlib.Core.List.{List}
 use mathlib.Core.Logic.{_↔_}
 use native.Mathlib.Omega.{arith}
 use native.Mathlib.Nat.{mul-le-mul-left}
-use lib.ListN.{length, getD, set}
+use lib.ListN.{length, set}
 use Rattle.numbers.proofs.Diff.{≤ℤ-trans}
 use Rattle.screen.specs.declared.Screen.{Screen}
 use Rattle.screen.specs.declared.Span.{Span}
-use Rattle.screen.specs.declared.Rectangle.{Rectangle}
-use Rattle.screen.specs.Screen.{Allowed, across, columns, rows, tiles, columnOf, rowOf, tileAt}
-use Rattle.screen.specs.Rectangle.{near, far, rectangleAt, rectangle, Meets, In, Meeting}
-use Rattle.screen.proofs.Laws.{near≥, near-far, far≤, rectangle-proper, columns≥, column-row, column<, row<, row-is, column-is, tile<}
-use Rattle.shape.specs.declared.Shape.{Shape}
+use Rattle.screen.specs.Screen.{Allowed, across, columns, rows, rowOf}
+use Rattle.screen.specs.Rectangle.{near, far, rectangleAt, rectangle, In}
+use Rattle.screen.proofs.Laws.{near≥, near-far, far≤, rectangle-proper, column-row, column<, row<, row-is, column-is, tile<}
 use Rattle.touch.specs.declared.Edges.{Edges}
-use Rattle.touch.specs.declared.RowEdges.{RowEdges}
 use Rattle.touch.specs.Touches.{Touches}
-use Rattle.touch.specs.Corner.{bounds, three, Overlap}
-use Rattle.touch.specs.Edges.{starts, Outline, rowEdges, Within}
+use Rattle.touch.specs.Edges.{Outline, rowEdges, Within}
 use Rattle.touch.proofs.Gaps.{row-of-tiles-has-no-gap}
 use Rattle.touch.proofs.Sizes.{side-within}
 use Rattle.touch.proofs.Theorem.{touching-meets-box, outline-clear-is-touching}
 use Rattle.walk.specs.Lists.{IsTouched, Below, Lists, ListsBefore}
-use Rattle.walk.specs.Row.{ClearIn, First, Run, RunIn, shapeOf, MeetingColumns, MeetingRows, MeetsRow}
+use Rattle.walk.specs.Row.{ClearIn, First, RunIn, shapeOf, MeetingColumns, MeetingRows, MeetsRow}
 use Rattle.walk.proofs.Lists.{lists-none, lists-iff, lists-run, lists-skip, run-none, run-more}
 
 -- ---- the sides of a tile are of a size that the test takes

@@ -1,12 +1,12 @@
 -- How a list of numbers grows: by nothing, by the next number, by a run of numbers; that it is as short as the numbers are few, and that it is the only one.
-use Prim.Native.Nat.{ℕ, zero, suc, _+_, _*_, _-_, _≤_, _<_}
+use Prim.Native.Nat.{ℕ, zero, suc, _+_, _-_, _≤_, _<_}
 use mathlib.Core.Path.{_≡_, refl, sym, subst, _∙_}
 use mathlib.Core.List.{List}
 use mathlib.Core.Logic.{_⊎_, inl, inr, ⊎-elim}
 use native.Mathlib.Decide.{decLe}
 use native.Mathlib.Omega.{arith}
-use lib.ListN.{length, getD, set, take, length-set, length-take}
-use lib.Seq.{getD-set-same, getD-set-other, getD-take, ext-getD}
+use lib.ListN.{length, getD, set, length-set}
+use lib.Seq.{getD-set-same, getD-set-other}
 use Rattle.walk.specs.Lists.{Below, Place, Lists}
 use Rattle.walk.specs.Row.{Run}
 

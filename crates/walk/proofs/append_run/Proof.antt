@@ -1,6 +1,5 @@
 -- `walk::append_run` meets its contract. The invariant: the columns passed are a run. The measure is what is left of the span.
-use mathlib.Core.Path.{sym}
-use Prim.Native.Nat.{ℕ, _≤_, _-_}
+use Prim.Native.Nat.{_≤_, _-_}
 use native.Mathlib.Omega.{arith}
 use borrow.Author.Needs.{needs}
 use borrow.Author.Tests.{not-true, not-false}

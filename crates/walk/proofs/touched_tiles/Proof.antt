@@ -1,10 +1,7 @@
 -- `walk::touched_tiles` meets its contract: the rows and columns are those that meet the bounding box, and the edges are those of the shape.
-use Prim.Native.Nat.{ℕ, _≤_}
-use mathlib.Core.Path.{_≡_, sym, ap, subst, _∙_}
+use mathlib.Core.Path.{sym, ap, subst, _∙_}
 use native.Mathlib.Omega.{arith}
-use lib.IntN.{ℤ}
 use mir.Syntax.{w32}
-use Rattle.numbers.specs.Is.{kept}
 use Rattle.numbers.proofs.Is.{kept-is}
 use Rattle.screen.specs.Rectangle.{Meeting}
 use Rattle.shape.specs.Shape.{InUnits}

@@ -1,8 +1,8 @@
 -- `walk::walk_row` meets its contract. The edges in the row decide of each column of the span; the first clear one and the run from it are all the touched tiles of the row.
 use Prim.Native.Nat.{ℕ, _*_, _+_}
-use mathlib.Core.Path.{_≡_, sym, ap, subst, _∙_}
+use mathlib.Core.Path.{sym, ap, subst, _∙_}
 use native.Mathlib.Omega.{arith}
-use lib.ListN.{length, set, length-set}
+use lib.ListN.{set, length-set}
 use mir.Syntax.{w64}
 use Rattle.numbers.proofs.Is.{is-call}
 use Rattle.screen.proofs.Laws.{columns≥}

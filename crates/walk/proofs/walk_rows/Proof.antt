@@ -1,5 +1,5 @@
 -- `walk::walk_rows` meets its contract. The invariant: the touched tiles of the rows passed are listed. The measure is what is left of the rows.
-use Prim.Native.Nat.{ℕ, _≤_, _-_}
+use Prim.Native.Nat.{_≤_, _-_}
 use native.Mathlib.Omega.{arith}
 use borrow.Author.Needs.{needs}
 use Rattle.screen.specs.Rectangle.{In}

@@ -7,12 +7,12 @@ use Rattle.pool.specs.Words.{edition, tileWord}
 use Rattle.pool.specs.Sound.{Sound as SoundPool, tilesOf}
 use Rattle.pool.specs.Lists.{listOf}
 use Rattle.pool.proofs.Words.{edition-fair}
-use Rattle.pool.proofs.Lists.{listOf-shows}
 use Rattle.audit.specs.declared.Header.{Header}
 use Rattle.audit.specs.declared.Audited.{Audited}
 use Rattle.audit.specs.declared.Audited.the-variants.{Sound, Damaged}
 use Rattle.audit.specs.Answer.{HeaderOf, AuditSays}
 use Rattle.lists.specs.Reach.{Among}
+use Rattle.lists.proofs.Named.{list-length}
 use Rattle.calls.specs.Tables.{listIn}
 
 pub told-damaged : {p : List ℕ} {x : Audited} → x ≡ Damaged → AuditSays p x → SoundPool edition p → ⊥
@@ -37,5 +37,4 @@ module _ {p : List ℕ} {h : Header} (k : SoundPool edition p × HeaderOf editio
 
   -- a tile's first word is the length of its list
   pub entries-are : {t : ℕ} → t < h .tiles → tileWord edition p t 0 ≡ length (listIn p t)
-  entries-are {t} l =
-      k .0 .shows .tile t (a-tile l) .entries ∙ sym (ap length (listOf-shows edition-fair (k .0 .shows) t (a-tile l)))
+  entries-are {t} l = sym (list-length edition-fair (k .0) t (a-tile l))

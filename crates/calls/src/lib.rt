@@ -10,7 +10,6 @@ use screen::Tile;
 use shape::Shape;
 use snap::PixelShape;
 use snap::SnappedShape;
-
 ghost use mathlib.Core.Path.{_≡_};
 ghost use Rattle.pool.specs.Words.{edition};
 ghost use Rattle.pool.specs.Sound.{Sound};
@@ -18,10 +17,7 @@ ghost use Rattle.pool.specs.Opening.{OpenSays};
 ghost use Rattle.shape.specs.Shape.{InRange};
 ghost use Rattle.audit.specs.Answer.{HeaderOf};
 ghost use Rattle.calls.specs.Tables.{AuditSays, refusedBin, PlaceSays, BinSays, BinPixelsSays, ReadSays, ReleaseSays};
-ghost use Rattle.walk.specs.Touched.{Walked};
-ghost use Rattle.screen.specs.Screen.{Allowed};
-ghost use lib.ListN.{length};
-ghost use Prim.Native.Nat.{_<_, _≤_};
+ghost use Prim.Native.Nat.{_<_};
 ghost use Rattle.calls.specs.Questions.{QuestionSays, notAsked, BoxSays, CornerSays};
 
 // What a bin answers: its number, the tiles listed and the blocks taken.
@@ -71,14 +67,11 @@ pub fn audit(pool: &[u32]) -> u32
 fn refused_bin(number: u32) -> Binned
     ensures { λ r. ⌜ r ≡ refusedBin number ⌝ }
 {
-    Binned { number, tiles: 0, blocks: 0 }
-}
-
-fn touched_tiles(screen: Screen, shape: Shape, list: &mut [u32]) -> u32
-    requires { ⌜ (Allowed screen) × (InRange shape) × (4096 ≤ length (now list)) ⌝ }
-    ensures { λ r. ⌜ Walked screen shape r (now (list .entry)) (now (list .exit)) ⌝ }
-{
-    0
+    Binned {
+        number,
+        tiles: 0,
+        blocks: 0,
+    }
 }
 
 // Appends the id to the list of each tile that the shape touches, in rising number, where there are as many free blocks as that needs: 0, or 8.
@@ -88,14 +81,18 @@ fn place(pool: &mut [u32], header: Header, shape: Shape, id: u32) -> Binned
     ensures { λ r. ⌜ PlaceSays (now (pool .entry)) shape id r (now (pool .exit)) ⌝ }
 {
     let mut touched = [0u32; 4096];
-    let count = touched_tiles(header.screen, shape, &mut touched);
+    let count = walk::touched_tiles(header.screen, shape, &mut touched);
     let tiles = wide(header.tiles);
     let blocks = lists::need(pool, tiles, &touched, wide(count));
     if wide(lists::free(pool)) < blocks {
         return refused_bin(8);
     }
     lists::append_all(pool, tiles, &touched, wide(count), id);
-    Binned { number: 0, tiles: count, blocks: narrow(blocks) }
+    Binned {
+        number: 0,
+        tiles: count,
+        blocks: narrow(blocks),
+    }
 }
 
 // Bins a whole-number shape: 0, the tiles listed and the blocks taken; or 4, 5, 7, 8 in that order.
@@ -158,10 +155,16 @@ pub fn release(pool: &mut [u32], tile: Tile) -> Released
 {
     let audited = audit::audit(pool);
     let Audited::Sound(header) = audited else {
-        return Released { number: 4, blocks: 0 };
+        return Released {
+            number: 4,
+            blocks: 0,
+        };
     };
     if header.tiles <= tile.0 {
-        return Released { number: 9, blocks: 0 };
+        return Released {
+            number: 9,
+            blocks: 0,
+        };
     }
     let blocks = lists::release(pool, wide(header.tiles), tile);
     Released { number: 0, blocks }

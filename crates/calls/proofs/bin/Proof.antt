@@ -44,12 +44,12 @@ same-length-3 : tie.Need-same-length-3
 same-length-3 c = search needs
 
 returns-3 : tie.Need-returns-3
-returns-3 c = 
+returns-3 c =
     let k = told-sound (c .before .before .before .before .before .audited .given .1) (c .before .before .before .before .before .before .before .audit .ensures) in
     out-of-range (k .0) (c .before .before .before .if1 .left) (c .before .before .in-range .ensures .no (not-true _ (c .before .if2 .taken))) (c .refused-bin3 .ensures) refl
 
 place-requires : tie.Need-place-requires
-place-requires c κs = 
+place-requires c κs =
     let k = told-sound (c .before .before .before .before .before .audited .given .1) (c .before .before .before .before .before .before .before .audit .ensures) in
     (k .0, k .1, c .before .before .in-range .ensures .yes (not-false _ (c .before .if2 .left)), c .before .before .before .if1 .left)
 
@@ -57,7 +57,7 @@ same-length-4 : tie.Need-same-length-4
 same-length-4 c = search needs
 
 returns-4 : tie.Need-returns-4
-returns-4 c = 
+returns-4 c =
     let k = told-sound (c .before .before .before .before .before .before .before .before .audited .given .1) (c .before .before .before .before .before .before .before .before .before .before .audit .ensures) in
     placed (k .0) (c .before .before .before .before .before .before .if1 .left) (c .before .before .before .before .before .in-range .ensures .yes (not-false _ (c .before .before .before .before .if2 .left))) (c .before .before .place .ensures)
 

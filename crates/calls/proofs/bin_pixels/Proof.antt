@@ -54,23 +54,23 @@ same-length-3 : tie.Need-same-length-3
 same-length-3 c = search needs
 
 returns-3 : tie.Need-returns-3
-returns-3 c = 
+returns-3 c =
     let k = told-sound (c .before .before .before .before .before .before .before .audited .given .1) (c .before .before .before .before .before .before .before .before .before .audit .ensures) in
     let e = c .before .before .enum-told2 .given .1 in
     offence (k .0) (c .before .before .before .before .before .if1 .left) _ (sym (c .before .before .before .before .snap-shape .ensures) ∙ e)
     (c .refused-bin3 .ensures ∙ ap refusedBin (c .before .shape-number .ensures ∙ ap shapeNumberOf e)) refl
 
 place-requires : tie.Need-place-requires
-place-requires c κs = 
+place-requires c κs =
     let k = told-sound (c .before .before .before .before .before .before .before .audited .given .1) (c .before .before .before .before .before .before .before .before .before .audit .ensures) in
     let e = sym (c .before .before .before .before .snap-shape .ensures) ∙ c .before .before .snapped .given .1 in
-    (k .0, k .1, whole-in-range _ e, c .before .before .before .before .before .if1 .left)
+    (k .0, k .1, whole-in-range (c .before .before .before .before .before .before .before .before .before .before .before .before .args .shape) e, c .before .before .before .before .before .if1 .left)
 
 same-length-4 : tie.Need-same-length-4
 same-length-4 c = search needs
 
 returns-4 : tie.Need-returns-4
-returns-4 c = 
+returns-4 c =
     let k = told-sound (c .before .before .before .before .before .before .before .before .before .before .audited .given .1) (c .before .before .before .before .before .before .before .before .before .before .before .before .audit .ensures) in
     placed (k .0) (c .before .before .before .before .before .before .before .before .if1 .left) _ (sym (c .before .before .before .before .before .before .before .snap-shape .ensures) ∙ c .before .before .before .before .before .snapped .given .1) (c .before .before .place .ensures)
 

@@ -31,19 +31,19 @@ entries-requires : tie.Need-entries-requires
 entries-requires c κs = let k = told-sound (c .before .before .before .before .before .audited .given .1) (c .before .before .before .before .before .before .before .audit .ensures) in among k (c .wide .ensures) (c .before .if1 .left)
 
 returns-3 : tie.Need-returns-3
-returns-3 c = 
+returns-3 c =
     let k = told-sound (c .before .before .before .before .before .before .before .audited .given .1) (c .before .before .before .before .before .before .before .before .before .audit .ensures) in
     let t = c .before .before .before .before .before .before .before .before .before .before .before .args .tile .0 in
     let e = c .before .entries .ensures .1 ∙ ap length (same-list k t (c .before .before .wide .ensures)) in
     past (k .0) (a-tile k (c .before .before .before .if1 .left)) (rw e at (c .if2 .taken)) refl
 
 id-at-requires : tie.Need-id-at-requires
-id-at-requires c κs = 
+id-at-requires c κs =
     let k = told-sound (c .before .before .before .before .before .before .before .audited .given .1) (c .before .before .before .before .before .before .before .before .before .audit .ensures) in
     (among k (c .before .before .wide .ensures) (c .before .before .before .if1 .left), rw (c .before .entries .ensures .0) at (c .if2 .left))
 
 returns-4 : tie.Need-returns-4
-returns-4 c = 
+returns-4 c =
     let k = told-sound (c .before .before .before .before .before .before .before .before .audited .given .1) (c .before .before .before .before .before .before .before .before .before .before .audit .ensures) in
     let t = c .before .before .before .before .before .before .before .before .before .before .before .before .args .tile .0 in
     let s = same-list k t (c .before .before .before .wide .ensures) in

@@ -41,7 +41,7 @@ same-length-3 : tie.Need-same-length-3
 same-length-3 c = search needs
 
 returns-3 : tie.Need-returns-3
-returns-3 c = 
+returns-3 c =
     let k = told-sound (c .before .before .before .before .before .before .before .before .before .audited .given .1) (c .before .before .before .before .before .before .before .before .before .before .before .audit .ensures) in
     let s = c .before .before .before .before .before .before .before .before .before .before .before .before .before .before .args in
     let l = c .before .before .before .before .before .if1 .left in

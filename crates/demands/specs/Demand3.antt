@@ -72,3 +72,9 @@ Demand3Holds =
     → (h₁ : List Entry) (q₁ : List ℕ) → Run p₁ h₁ q₁
     → (h₂ : List Entry) (q₂ : List ℕ) → callsOf h₂ ≡ callsOf (lessRoom h₁) → Run p₂ h₂ q₂
     → Demand3 d N n h₁ q₁ h₂ q₂
+
+-- and such calls on the second pool there are: it can be given them, and answers as the first did
+abbrev pub Demand3Runs : Type 0
+Demand3Runs =
+    (d : Screen) (N n : ℕ) (p₁ p₂ : List ℕ) → Openings d N n p₁ p₂ → (h₁ : List Entry) (q₁ : List ℕ) → Run p₁ h₁ q₁
+    → (q₂ : List ℕ) × Run p₂ (lessRoom h₁) q₂

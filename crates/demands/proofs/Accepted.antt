@@ -4,7 +4,7 @@ use mathlib.Core.List.{List}
 use Prim.Native.Nat.{ℕ, _≤_, _<_}
 use Rattle.shape.specs.declared.Shape.{Shape}
 use Rattle.walk.specs.Touched.{TouchedTiles}
-use Rattle.pool.specs.Words.{Layout, edition, room}
+use Rattle.pool.specs.Words.{edition, room}
 use Rattle.pool.specs.State.{State}
 use Rattle.pool.specs.Sound.{Sound, screenOf, tilesOf, blocksOf}
 use Rattle.pool.specs.Lists.{listOf}

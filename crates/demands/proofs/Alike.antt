@@ -1,13 +1,12 @@
 -- Two pools that say the same, the second with more blocks, are still so after any calls on the first and the same less those refused for room on the
 -- second; and the second gives the same answers.
 use mathlib.Core.Path.{_≡_, refl, sym, ap, subst, _∙_}
-use mathlib.Core.Logic.{_≢_, _⊎_, inl, inr, ⊎-elim}
+use mathlib.Core.Logic.{_≢_, ⊎-elim}
 use mathlib.Core.Bool.{Bool, cond}
-use mathlib.Core.List.{List, [], _∷_, _++_}
-use Prim.Native.Nat.{ℕ, _+_, _≤_, _<_}
+use mathlib.Core.List.{List, [], _∷_}
+use Prim.Native.Nat.{ℕ, _<_}
 use native.Mathlib.Omega.{arith}
-use lib.Dec.{eqb}
-use lib.ListN.{length, getD}
+use lib.ListN.{length}
 use borrow.Author.Tests.{eq-eqb, ne-eqb}
 use Rattle.numbers.specs.Ceil.{ceil}
 use Rattle.numbers.proofs.Ceil.{eq-or-ne}
@@ -29,7 +28,7 @@ use Rattle.lists.proofs.Widening.{wider-tiles, wider-sound, wider-sound′, wid
 use Rattle.calls.specs.declared.Binned.{Binned}
 use Rattle.calls.specs.declared.Released.{Released}
 use Rattle.calls.specs.declared.Found.{Found}
-use Rattle.calls.specs.Tables.{PlaceSays, BinSays, BinPixelsSays, ReadSays, ReleaseSays, listIn, freeIn}
+use Rattle.calls.specs.Tables.{PlaceSays, BinSays, BinPixelsSays, ReadSays, ReleaseSays, listIn}
 use Rattle.demands.specs.History.{Entry, binned, binned-pixels, found, released, numberOf, Step, Run, lessRoom}
 use Rattle.demands.proofs.Touched.{touched-tiles-distinct}
 use Rattle.demands.proofs.Demand1.{demand-1}

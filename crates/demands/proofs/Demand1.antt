@@ -8,7 +8,7 @@ use Rattle.screen.specs.declared.Screen.{Screen}
 use Rattle.screen.specs.Screen.{tiles}
 use Rattle.shape.specs.declared.Shape.{Shape}
 use Rattle.snap.specs.declared.PixelShape.{PixelShape}
-use Rattle.snap.proofs.Shapes.{SixOrSeven, refused-six-or-seven}
+use Rattle.snap.proofs.Shapes.{refused-six-or-seven}
 use Rattle.pool.specs.Words.{edition, room}
 use Rattle.pool.specs.Sound.{Sound, tilesOf, blocksOf}
 use Rattle.pool.proofs.Words.{edition-fair}
@@ -38,40 +38,36 @@ acceptance z out = record { number-is = inl z; refused = λ ne. absurd (ne z); a
 
 -- ---- the bins
 
-abbrev BinRefused : (n : ℕ) (a : Binned) (p q : List ℕ) → Type 0
-BinRefused n a p q = (a ≡ refusedBin n) × (q ≡ p)
-
 placed-either : {p : List ℕ} {shape : Shape} {id : ℕ} {a : Binned} {q : List ℕ} → Sound edition p → id < edition .limit → PlaceSays p shape id a q
-    → BinRefused 8 a p q ⊎ ((a .number ≡ 0) × Outside (room edition (tilesOf p) (blocksOf p)) p q)
+    → ((a ≡ refusedBin 8) × (q ≡ p)) ⊎ ((a .number ≡ 0) × Outside (room edition (tilesOf p) (blocksOf p)) p q)
 placed-either S i (PlaceSays.no-room ts T l e f) = inl (e, f)
 placed-either {p} {shape} {id} {a} {q} S i (PlaceSays.done ts T l e f) =
     inr (ap (λ (b : Binned). b .number) e, rw f (kept-outside (bin-appends S id i T l .kept)))
 
-module _ {p : List ℕ} {id : ℕ} {a : Binned} {q : List ℕ} where
-  bin-refusal : {shape : Shape} {n : ℕ} → BinRefused n a p q → n ≢ 0 → Among n (refusals (binned shape id a)) → Demand1 p (binned shape id a) q
-  bin-refusal {shape} {n} r ne among =
-      refusal n (ap (λ (b : Binned). b .number) (r .0)) ne among (ap (λ (b : Binned). b .tiles) (r .0), ap (λ (b : Binned). b .blocks) (r .0)) (r .1)
+number-of : {a : Binned} {n : ℕ} → a ≡ refusedBin n → a .number ≡ n
+number-of e = ap (λ (b : Binned). b .number) e
 
-  bin-pixels-refusal : {shape : PixelShape} {n : ℕ} → BinRefused n a p q → n ≢ 0 → Among n (refusals (binned-pixels shape id a))
-      → Demand1 p (binned-pixels shape id a) q
-  bin-pixels-refusal {shape} {n} r ne among =
-      refusal n (ap (λ (b : Binned). b .number) (r .0)) ne among (ap (λ (b : Binned). b .tiles) (r .0), ap (λ (b : Binned). b .blocks) (r .0)) (r .1)
+zeros : {a : Binned} {n : ℕ} → a ≡ refusedBin n → (a .tiles ≡ 0) × (a .blocks ≡ 0)
+zeros e = (ap (λ (b : Binned). b .tiles) e, ap (λ (b : Binned). b .blocks) e)
 
-  bin-1 : {shape : Shape} → BinSays p shape id a q → Demand1 p (binned shape id a) q
-  bin-1 (BinSays.damaged n e f) = bin-refusal (e, f) (omega arith) (inl refl)
-  bin-1 (BinSays.bad-id S i e f) = bin-refusal (e, f) (omega arith) (inr (inl refl))
-  bin-1 (BinSays.out-of-range S i o e f) = bin-refusal (e, f) (omega arith) (inr (inr (inl refl)))
-  bin-1 (BinSays.placed S i o w) = ⊎-elim (λ r. bin-refusal r (omega arith) (inr (inr (inr (inl refl))))) (λ d. acceptance (d .0) (d .1)) (placed-either S i w)
+bin-1 : {p : List ℕ} {shape : Shape} {id : ℕ} {a : Binned} {q : List ℕ} → BinSays p shape id a q → Demand1 p (binned shape id a) q
+bin-1 (BinSays.damaged n e f) = refusal 4 (number-of e) (omega arith) (inl refl) (zeros e) f
+bin-1 (BinSays.bad-id S i e f) = refusal 5 (number-of e) (omega arith) (inr (inl refl)) (zeros e) f
+bin-1 (BinSays.out-of-range S i o e f) = refusal 7 (number-of e) (omega arith) (inr (inr (inl refl))) (zeros e) f
+bin-1 (BinSays.placed S i o w) =
+    ⊎-elim (λ r. refusal 8 (number-of (r .0)) (omega arith) (inr (inr (inr (inl refl)))) (zeros (r .0)) (r .1)) (λ d. acceptance (d .0) (d .1))
+    (placed-either S i w)
 
-  bin-pixels-1 : {shape : PixelShape} → BinPixelsSays p shape id a q → Demand1 p (binned-pixels shape id a) q
-  bin-pixels-1 (BinPixelsSays.damaged n e f) = bin-pixels-refusal (e, f) (omega arith) (inl refl)
-  bin-pixels-1 (BinPixelsSays.bad-id S i e f) = bin-pixels-refusal (e, f) (omega arith) (inr (inl refl))
-  bin-pixels-1 {shape} (BinPixelsSays.offence S i n o e f) =
-      ⊎-elim (λ (s : n ≡ 6). bin-pixels-refusal (e, f) (omega arith) (inr (inr (inl s))))
-      (λ (s : n ≡ 7). bin-pixels-refusal (e, f) (omega arith) (inr (inr (inr (inl s)))))
-      (refused-six-or-seven shape o)
-  bin-pixels-1 (BinPixelsSays.placed S i k o w) =
-      ⊎-elim (λ r. bin-pixels-refusal r (omega arith) (inr (inr (inr (inr (inl refl)))))) (λ d. acceptance (d .0) (d .1)) (placed-either S i w)
+bin-pixels-1 : {p : List ℕ} {shape : PixelShape} {id : ℕ} {a : Binned} {q : List ℕ} → BinPixelsSays p shape id a q → Demand1 p (binned-pixels shape id a) q
+bin-pixels-1 (BinPixelsSays.damaged n e f) = refusal 4 (number-of e) (omega arith) (inl refl) (zeros e) f
+bin-pixels-1 (BinPixelsSays.bad-id S i e f) = refusal 5 (number-of e) (omega arith) (inr (inl refl)) (zeros e) f
+bin-pixels-1 {shape = shape} (BinPixelsSays.offence S i n o e f) =
+    ⊎-elim (λ (s : n ≡ 6). refusal n (number-of e) (omega arith) (inr (inr (inl s))) (zeros e) f)
+    (λ (s : n ≡ 7). refusal n (number-of e) (omega arith) (inr (inr (inr (inl s)))) (zeros e) f)
+    (refused-six-or-seven shape o)
+bin-pixels-1 (BinPixelsSays.placed S i k o w) =
+    ⊎-elim (λ r. refusal 8 (number-of (r .0)) (omega arith) (inr (inr (inr (inr (inl refl))))) (zeros (r .0)) (r .1)) (λ d. acceptance (d .0) (d .1))
+    (placed-either S i w)
 
 -- ---- reading and releasing
 

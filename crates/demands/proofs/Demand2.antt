@@ -1,35 +1,33 @@
 -- Demand 2 holds of every bin and every release of a sound pool.
 use mathlib.Core.Path.{_≡_, refl, sym, ap, subst, _∙_}
-use mathlib.Core.Logic.{_≢_, _⊎_, inl, inr, ⊎-elim, _↔_}
-use mathlib.Core.List.{List, [], _∷_, _++_}
-use Prim.Native.Nat.{ℕ, _+_, _≤_, _<_}
+use mathlib.Core.Logic.{_≢_, ⊎-elim}
+use mathlib.Core.List.{List}
+use Prim.Native.Nat.{ℕ, _≤_, _<_}
 use native.Mathlib.Omega.{arith}
 use lib.ListN.{length}
 use Rattle.numbers.specs.Ceil.{ceil}
 use Rattle.shape.specs.declared.Shape.{Shape}
 use Rattle.shape.specs.Shape.{InRange}
-use Rattle.walk.specs.Touched.{TouchedTiles}
 use Rattle.snap.specs.declared.PixelShape.{PixelShape}
 use Rattle.snap.specs.declared.SnappedShape.{SnappedShape}
 use Rattle.snap.specs.Shapes.{shapeOf}
 use Rattle.snap.proofs.Shapes.{SixOrSeven, refused-six-or-seven, whole-in-range}
 use Rattle.pool.specs.Words.{edition, tileWord}
 use Rattle.pool.specs.State.{State, tileOf, times}
-use Rattle.pool.specs.Sound.{Sound, screenOf, tilesOf, blocksOf}
+use Rattle.pool.specs.Sound.{Sound, tilesOf}
 use Rattle.pool.proofs.Words.{edition-fair}
 use Rattle.pool.proofs.Lists.{listOf-shows}
 use Rattle.pool.proofs.Unique.{state-unique}
-use Rattle.lists.specs.Appending.{need, appendAll}
 use Rattle.lists.specs.Releasing.{release}
 use Rattle.lists.specs.Steps.{releaseState}
 use Rattle.lists.proofs.Gives.{times-onto}
 use Rattle.lists.proofs.Releases.{release-releases}
 use Rattle.calls.specs.declared.Binned.{Binned}
 use Rattle.calls.specs.declared.Released.{Released}
-use Rattle.calls.specs.Tables.{PlaceSays, BinSays, BinPixelsSays, ReleaseSays, refusedBin, listIn, freeIn}
-use Rattle.demands.specs.Demand2.{StaysSound, InOrder, NoRoom, HasRoom, Listed, Demand2Bin, Demand2Pixels, Emptied, Demand2Release}
+use Rattle.calls.specs.Tables.{PlaceSays, BinSays, BinPixelsSays, ReleaseSays, refusedBin, listIn}
+use Rattle.demands.specs.Demand2.{StaysSound, NoRoom, HasRoom, Listed, Demand2Bin, Demand2Pixels, Emptied, Demand2Release}
 use Rattle.demands.proofs.Touched.{touched-in, untouched-in}
-use Rattle.demands.proofs.OneOutcome.{bin-one-outcome, bin-pixels-one-outcome, release-one-outcome}
+use Rattle.demands.proofs.OneOutcome.{bin-one-outcome, bin-pixels-one-outcome}
 use Rattle.demands.proofs.Accepted.{bin-appends, same-stays, kept-stays, kept-list}
 
 -- ---- the last rows of both bins
@@ -110,10 +108,14 @@ module _ {p : List ℕ} {shape : Shape} {id : ℕ} {a : Binned} {q : List ℕ} w
   demand-2-bin S B = record {
     bad-id = (bin-bad-id B, λ h. bin-number B (BinSays.bad-id S h refl refl));
     out-of-range = (bin-out-of-range B, λ h. bin-number B (BinSays.out-of-range S (h .0) (h .1) refl refl));
-    no-room = (bin-no-room B,
-      λ h. let o = h .0 in bin-number B (BinSays.placed S (o .id<) (o .in-range) (PlaceSays.no-room (o .ts) (o .touched) (h .1) refl refl)));
-    done = ((λ z. bin-done B z .0),
-      λ h. let o = h .0 in bin-number B (BinSays.placed S (o .id<) (o .in-range) (PlaceSays.done (o .ts) (o .touched) (h .1) refl refl)));
+    no-room = (
+      bin-no-room B,
+      λ h. let o = h .0 in bin-number B (BinSays.placed S (o .id<) (o .in-range) (PlaceSays.no-room (o .ts) (o .touched) (h .1) refl refl)),
+    );
+    done = (
+      (λ z. bin-done B z .0),
+      λ h. let o = h .0 in bin-number B (BinSays.placed S (o .id<) (o .in-range) (PlaceSays.done (o .ts) (o .touched) (h .1) refl refl)),
+    );
     listed = λ z. bin-done B z .1;
     stays = bin-stays S B;
   }
@@ -170,10 +172,14 @@ module _ {p : List ℕ} {shape : PixelShape} {id : ℕ} {a : Binned} {q : List �
   demand-2-pixels S B = record {
     bad-id = (pixels-bad-id B, λ h. pixels-number B (BinPixelsSays.bad-id S h refl refl));
     offence = λ n s. (pixels-offence S B n s, λ h. pixels-number B (BinPixelsSays.offence S (h .0) n (h .1) refl refl));
-    no-room = (pixels-no-room B,
-      λ h. let o = h .2 .0 in pixels-number B (BinPixelsSays.placed S (o .id<) (h .0) (h .1) (PlaceSays.no-room (o .ts) (o .touched) (h .2 .1) refl refl)));
-    done = ((λ z. let r = pixels-done B z in (r .0, r .1, r .2)),
-      λ h. let o = h .2 .0 in pixels-number B (BinPixelsSays.placed S (o .id<) (h .0) (h .1) (PlaceSays.done (o .ts) (o .touched) (h .2 .1) refl refl)));
+    no-room = (
+      pixels-no-room B,
+      λ h. let o = h .2 .0 in pixels-number B (BinPixelsSays.placed S (o .id<) (h .0) (h .1) (PlaceSays.no-room (o .ts) (o .touched) (h .2 .1) refl refl)),
+    );
+    done = (
+      (λ z. let r = pixels-done B z in (r .0, r .1, r .2)),
+      λ h. let o = h .2 .0 in pixels-number B (BinPixelsSays.placed S (o .id<) (h .0) (h .1) (PlaceSays.done (o .ts) (o .touched) (h .2 .1) refl refl)),
+    );
     listed = λ z. let r = pixels-done B z in (r .0, r .1, r .3);
     stays = pixels-stays S B;
   }

@@ -1,5 +1,5 @@
 -- Demand 3 holds: of two pools of one screen, the second with more blocks, after any calls on the first and the same less those refused for room on the second.
-use mathlib.Core.Path.{_≡_, refl, sym, ap, subst, _∙_}
+use mathlib.Core.Path.{_≡_, sym, ap, subst, _∙_}
 use mathlib.Core.List.{List, []}
 use Prim.Native.Nat.{ℕ, _+_, _≤_, _<_}
 use native.Mathlib.Omega.{arith}
@@ -15,10 +15,9 @@ use Rattle.pool.proofs.Words.{edition-fair}
 use Rattle.pool.proofs.Opening.{header-fits, open-sound, opening-opened, opening-screen, opening-tiles, opening-blocks, opening-shows, opening-lists-empty}
 use Rattle.lists.specs.Wider.{widen, Wider}
 use Rattle.lists.proofs.Widening.{widen-opening, wider-free, wider-poison}
-use Rattle.calls.specs.Tables.{OpenSays, listIn, freeIn}
-use Rattle.demands.specs.History.{Entry, Run, callsOf, lessRoom}
-use Rattle.demands.specs.Demand2.{StaysSound}
-use Rattle.demands.specs.Demand3.{Openings, Demand3, Demand3Holds, Demand3Runs}
+use Rattle.calls.specs.Tables.{OpenSays, listIn}
+use Rattle.demands.specs.History.{lessRoom}
+use Rattle.demands.specs.Demand3.{Demand3Holds, Demand3Runs}
 use Rattle.demands.proofs.Runs.{run-stays, runs-one-outcome}
 use Rattle.demands.proofs.Listed.{lists-are-listed}
 use Rattle.demands.proofs.Alike.{lists-same, run-follows}

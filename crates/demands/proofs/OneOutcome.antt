@@ -2,25 +2,20 @@
 use mathlib.Core.Path.{_≡_, refl, ap}
 use mathlib.Core.Bool.{Bool, true, false}
 use mathlib.Core.List.{List}
-use Prim.Native.Nat.{ℕ, _≤_, _<_}
+use Prim.Native.Nat.{ℕ}
 use native.Mathlib.Omega.{arith}
-use lib.ListN.{length}
 use Rattle.numbers.specs.Says.{Says}
 use Rattle.screen.specs.declared.Screen.{Screen}
-use Rattle.screen.specs.Rectangle.{rectangle}
 use Rattle.shape.specs.declared.Shape.{Shape}
-use Rattle.touch.specs.Touches.{Touches}
-use Rattle.touch.specs.Corner.{Box}
 use Rattle.snap.specs.declared.PixelShape.{PixelShape}
 use Rattle.snap.specs.declared.SnappedShape.{SnappedShape}
-use Rattle.snap.specs.Shapes.{shapeOf}
 use Rattle.pool.specs.Words.{edition}
 use Rattle.lists.specs.Appending.{need}
 use Rattle.calls.specs.declared.Binned.{Binned}
 use Rattle.calls.specs.declared.Released.{Released}
 use Rattle.calls.specs.declared.Found.{Found}
 use Rattle.calls.specs.declared.Answered.{Answered}
-use Rattle.calls.specs.Tables.{OpenSays, AuditSays, PlaceSays, BinSays, BinPixelsSays, ReadSays, ReleaseSays, freeIn}
+use Rattle.calls.specs.Tables.{OpenSays, AuditSays, PlaceSays, BinSays, BinPixelsSays, ReadSays, ReleaseSays}
 use Rattle.calls.specs.Questions.{RefusedWith, InOrder, TouchSays, BoxSays, CornerSays}
 use Rattle.demands.proofs.Touched.{touched-tiles-unique}
 

@@ -2,15 +2,10 @@
 use mathlib.Core.Path.{_≡_, refl, sym, subst, _∙_}
 use mathlib.Core.List.{List, [], _∷_}
 use Prim.Native.Nat.{ℕ}
-use Rattle.shape.specs.declared.Shape.{Shape}
-use Rattle.snap.specs.declared.PixelShape.{PixelShape}
 use Rattle.pool.specs.Words.{edition}
 use Rattle.pool.specs.Sound.{Sound}
-use Rattle.calls.specs.declared.Binned.{Binned}
-use Rattle.calls.specs.declared.Released.{Released}
-use Rattle.calls.specs.declared.Found.{Found}
 use Rattle.calls.specs.Tables.{BinSays, BinPixelsSays, ReadSays, ReleaseSays}
-use Rattle.demands.specs.History.{Call, Entry, binned, binned-pixels, found, released, callOf, callsOf, Step, Run}
+use Rattle.demands.specs.History.{Entry, binned, binned-pixels, found, released, callOf, callsOf, Step, Run}
 use Rattle.demands.specs.Demand2.{StaysSound}
 use Rattle.demands.proofs.OneOutcome.{bin-one-outcome, bin-pixels-one-outcome, read-one-outcome, release-one-outcome}
 use Rattle.demands.proofs.Accepted.{same-stays}

@@ -30,7 +30,7 @@ pub record StaysSound (p q : List ℕ) : Type 0 where
 -- ---- bin
 
 -- no cause before 8 applies; ts are the tiles that the shape touches
-pub record InOrder (p : List ℕ) (shape : Shape) (id : ℕ) : Type 0 where
+pub record Binnable (p : List ℕ) (shape : Shape) (id : ℕ) : Type 0 where
   pub id< : id < edition .limit
   pub in-range : InRange shape
   pub ts : List ℕ
@@ -38,10 +38,10 @@ pub record InOrder (p : List ℕ) (shape : Shape) (id : ℕ) : Type 0 where
 
 -- the blocks that it needs exceed the free ones, or do not
 abbrev pub NoRoom : (p : List ℕ) → Shape → (id : ℕ) → Type 0
-NoRoom p shape id = (o : InOrder p shape id) × (freeIn p < need edition p (o .ts))
+NoRoom p shape id = (o : Binnable p shape id) × (freeIn p < need edition p (o .ts))
 
 abbrev pub HasRoom : (p : List ℕ) → Shape → (id : ℕ) → Type 0
-HasRoom p shape id = (o : InOrder p shape id) × (need edition p (o .ts) ≤ freeIn p)
+HasRoom p shape id = (o : Binnable p shape id) × (need edition p (o .ts) ≤ freeIn p)
 
 -- an accepted bin: the id stands once more at the end of the list of each tile that the shape touches, and of no other
 pub record Listed (p : List ℕ) (shape : Shape) (id : ℕ) (a : Binned) (q : List ℕ) : Type 0 where

@@ -54,7 +54,8 @@ pub record Openings (d : Screen) (N n : ℕ) (p₁ p₂ : List ℕ) : Type 0 whe
   pub first : OpenSays old₁ d N 0 p₁
   pub second : OpenSays old₂ d (N + n) 0 p₂
 
--- after any calls on the first pool, and the same less those that it refused for room on the second
+-- After any calls on the first pool, and the same less those that it refused for room on the second. The beginning of a history is a history, so this
+-- holds after each call.
 pub record Demand3 (d : Screen) (N n : ℕ) (h₁ : List Entry) (q₁ : List ℕ) (h₂ : List Entry) (q₂ : List ℕ) : Type 0 where
   -- each shared call got the same answer
   pub answers : h₂ ≡ lessRoom h₁

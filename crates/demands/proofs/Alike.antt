@@ -34,8 +34,8 @@ use Rattle.demands.proofs.Touched.{touched-tiles-distinct}
 use Rattle.demands.proofs.Demand1.{demand-1}
 
 -- the second pool answers so too, and leaves words that are still n blocks wider than q
-abbrev Follows : (n : ℕ) (w : List ℕ) (Says : List ℕ → Type 0) (q : List ℕ) → Type 0
-Follows n w Says q = (v : List ℕ) × (r : State) × Says v × Wider edition n q v r
+abbrev Follows : (n : ℕ) (Says : List ℕ → Type 0) (q : List ℕ) → Type 0
+Follows n Says q = (v : List ℕ) × (r : State) × Says v × Wider edition n q v r
 
 module _ {n : ℕ} {p w : List ℕ} {s : State} (W : Wider edition n p w s) where
   sound : Sound edition p
@@ -51,11 +51,11 @@ module _ {n : ℕ} {p w : List ℕ} {s : State} (W : Wider edition n p w s) wher
   lists-same t ht = ap (λ (T : ℕ). listOf edition T w t) tiles-same ∙ wider-lists edition-fair W t ht
 
   -- where the first pool is left as it was, so is the second
-  unchanged : {q : List ℕ} (Says : List ℕ → Type 0) → q ≡ p → Says w → Follows n w Says q
+  unchanged : {q : List ℕ} (Says : List ℕ → Type 0) → q ≡ p → Says w → Follows n Says q
   unchanged {q} Says e h = (w, s, h, subst (λ (x : List ℕ). Wider edition n x w s) (sym e) W)
 
   place-follows : {shape : Shape} {id : ℕ} {a : Binned} {q : List ℕ} → id < edition .limit → PlaceSays p shape id a q → a .number ≢ 8
-      → Follows n w (λ v. PlaceSays w shape id a v) q
+      → Follows n (λ v. PlaceSays w shape id a v) q
   place-follows i (PlaceSays.no-room ts T l e f) ne = absurd (ne (ap (λ (b : Binned). b .number) e))
   place-follows {shape} {id} {a} {q} i (PlaceSays.done ts T l e f) ne =
       let D = touched-tiles-distinct T in
@@ -65,14 +65,14 @@ module _ {n : ℕ} {p w : List ℕ} {s : State} (W : Wider edition n p w s) wher
       let e′ : a ≡ record { number = 0; tiles = length ts; blocks = need edition w ts } = rw same e in
       (appendAll edition (tilesOf w) w ts id, appendAllState (edition .ids) s ts id, PlaceSays.done ts T′ (omega arith) e′ refl, rw (f, tiles-same) (wider-append-all edition-fair W ts id D i l))
 
-  bin-follows : {shape : Shape} {id : ℕ} {a : Binned} {q : List ℕ} → BinSays p shape id a q → a .number ≢ 8 → Follows n w (λ v. BinSays w shape id a v) q
+  bin-follows : {shape : Shape} {id : ℕ} {a : Binned} {q : List ℕ} → BinSays p shape id a q → a .number ≢ 8 → Follows n (λ v. BinSays w shape id a v) q
   bin-follows (BinSays.damaged d e f) ne = absurd (d sound)
   bin-follows (BinSays.bad-id S i e f) ne = unchanged _ f (BinSays.bad-id sound′ i e refl)
   bin-follows (BinSays.out-of-range S i o e f) ne = unchanged _ f (BinSays.out-of-range sound′ i o e refl)
   bin-follows (BinSays.placed S i o k) ne = let F = place-follows i k ne in (F .0, F .1, BinSays.placed sound′ i o (F .2), F .3)
 
   bin-pixels-follows : {shape : PixelShape} {id : ℕ} {a : Binned} {q : List ℕ} → BinPixelsSays p shape id a q → a .number ≢ 8
-      → Follows n w (λ v. BinPixelsSays w shape id a v) q
+      → Follows n (λ v. BinPixelsSays w shape id a v) q
   bin-pixels-follows (BinPixelsSays.damaged d e f) ne = absurd (d sound)
   bin-pixels-follows (BinPixelsSays.bad-id S i e f) ne = unchanged _ f (BinPixelsSays.bad-id sound′ i e refl)
   bin-pixels-follows (BinPixelsSays.offence S i m o e f) ne = unchanged _ f (BinPixelsSays.offence sound′ i m o e refl)
@@ -84,14 +84,14 @@ module _ {n : ℕ} {p w : List ℕ} {s : State} (W : Wider edition n p w s) wher
   read-follows {t} {place} {a} (ReadSays.past S h l e) = ReadSays.past sound′ (omega (arith, tiles-same)) (rw (lists-same t h) l) e
   read-follows {t} {place} {a} (ReadSays.done S h l e) = ReadSays.done sound′ (omega (arith, tiles-same)) (rw (lists-same t h) l) (rw (lists-same t h) e)
 
-  release-follows : {t : ℕ} {a : Released} {q : List ℕ} → ReleaseSays p t a q → Follows n w (λ v. ReleaseSays w t a v) q
+  release-follows : {t : ℕ} {a : Released} {q : List ℕ} → ReleaseSays p t a q → Follows n (λ v. ReleaseSays w t a v) q
   release-follows (ReleaseSays.damaged d e f) = absurd (d sound)
   release-follows (ReleaseSays.no-tile S h e f) = unchanged _ f (ReleaseSays.no-tile sound′ (omega (arith, tiles-same)) e refl)
   release-follows {t} {a} {q} (ReleaseSays.done S h e f) =
       let e′ : a ≡ record { number = 0; blocks = ceil (length (listIn w t)) (edition .ids) } = rw (lists-same t h) e in
       (release edition (tilesOf w) w t, releaseState s t, ReleaseSays.done sound′ (omega (arith, tiles-same)) e′ refl, rw (f, tiles-same) (wider-release edition-fair W t h))
 
-  step-follows : (e : Entry) (q : List ℕ) → Step p e q → numberOf e ≢ 8 → Follows n w (λ v. Step w e v) q
+  step-follows : (e : Entry) (q : List ℕ) → Step p e q → numberOf e ≢ 8 → Follows n (λ v. Step w e v) q
   step-follows (binned shape id a) q k ne = bin-follows k ne
   step-follows (binned-pixels shape id a) q k ne = bin-pixels-follows k ne
   step-follows (found tile place a) q k ne = unchanged _ (k .1) (read-follows (k .0), refl)
@@ -106,7 +106,7 @@ shared : (e : Entry) (h : List Entry) → numberOf e ≢ 8 → lessRoom (e ∷ h
 shared e h ne = ap (λ (b : Bool). cond b (lessRoom h) (e ∷ lessRoom h)) (ne-eqb (numberOf e) 8 ne)
 
 pub run-follows : {n : ℕ} {p w : List ℕ} {s : State} → Wider edition n p w s → (h : List Entry) (q : List ℕ) → Run p h q
-    → Follows n w (λ v. Run w (lessRoom h) v) q
+    → Follows n (λ v. Run w (lessRoom h) v) q
 run-follows W [] q r = unchanged W _ r refl
 run-follows {n} {p} {w} {s} W (e ∷ h) q r =
     let F = run-follows W h (r .0) (r .1) in

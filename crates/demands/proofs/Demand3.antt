@@ -24,13 +24,13 @@ use Rattle.demands.proofs.Alike.{lists-same, run-follows}
 
 -- ---- an accepted opening
 
-record Accepted (old : List ℕ) (d : Screen) (N : ℕ) (p : List ℕ) : Type 0 where
+record AcceptedOpening (old : List ℕ) (d : Screen) (N : ℕ) (p : List ℕ) : Type 0 where
   allowed : Allowed d
   few : N ≤ 2048
   long : room edition (tiles d) N ≤ length old
   is : p ≡ opening edition d N old
 
-accepted-opening : {old : List ℕ} {d : Screen} {N : ℕ} {p : List ℕ} → OpenSays old d N 0 p → Accepted old d N p
+accepted-opening : {old : List ℕ} {d : Screen} {N : ℕ} {p : List ℕ} → OpenSays old d N 0 p → AcceptedOpening old d N p
 accepted-opening (OpenSays.bad-screen n e f) = absurd (omega arith)
 accepted-opening (OpenSays.too-many s m e f) = absurd (omega arith)
 accepted-opening (OpenSays.too-short s m l e f) = absurd (omega arith)
@@ -43,7 +43,7 @@ record Fresh (d : Screen) (N : ℕ) (p : List ℕ) : Type 0 where
   blocks : blocksOf p ≡ N
   none : (t : ℕ) → t < tiles d → listIn p t ≡ []
 
-fresh : {old : List ℕ} {d : Screen} {N : ℕ} {p : List ℕ} → Accepted old d N p → Fresh d N p
+fresh : {old : List ℕ} {d : Screen} {N : ℕ} {p : List ℕ} → AcceptedOpening old d N p → Fresh d N p
 fresh {old} {d} {N} {p} A =
     let fits = header-fits d N in
     subst (λ (x : List ℕ). Fresh d N x) (sym (A .is))
@@ -56,7 +56,7 @@ fresh {old} {d} {N} {p} A =
     })
 
 -- two openings say the same, the second with n blocks more
-openings-wider : {d : Screen} {N n : ℕ} {old old′ p w : List ℕ} → Accepted old d N p → Accepted old′ d (N + n) w → Wider edition n p w (openingState (tiles d) N)
+openings-wider : {d : Screen} {N n : ℕ} {old old′ p w : List ℕ} → AcceptedOpening old d N p → AcceptedOpening old′ d (N + n) w → Wider edition n p w (openingState (tiles d) N)
 openings-wider {d} {N} {n} {old} {old′} {p} {w} A B =
     let fits = header-fits d N in
     let fits′ = header-fits d (N + n) in

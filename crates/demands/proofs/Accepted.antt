@@ -16,11 +16,11 @@ use Rattle.lists.proofs.Several.{append-all-appends}
 use Rattle.calls.specs.Tables.{listIn, freeIn}
 use Rattle.demands.specs.Demand1.{Outside}
 use Rattle.demands.specs.Demand2.{StaysSound}
-use Rattle.demands.proofs.Touched.{touched-tiles-distinct}
+use Rattle.calls.proofs.Placing.{touched-distinct}
 
 pub bin-appends : {p : List ℕ} {shape : Shape} {ts : List ℕ} (S : Sound edition p) (id : ℕ) → id < edition .limit → TouchedTiles (screenOf p) shape ts
     → need edition p ts ≤ freeIn p → Appended edition p S (appendAll edition (tilesOf p) p ts id) ts id
-bin-appends {ts = ts} S id hid T enough = append-all-appends edition-fair S ts id (touched-tiles-distinct T) hid enough
+bin-appends {ts = ts} S id hid T enough = append-all-appends edition-fair S ts id (touched-distinct T) hid enough
 
 -- nothing changed
 pub same-outside : {end : ℕ} {p q : List ℕ} → q ≡ p → Outside end p q

@@ -30,7 +30,7 @@ use Rattle.calls.specs.declared.Released.{Released}
 use Rattle.calls.specs.declared.Found.{Found}
 use Rattle.calls.specs.Tables.{PlaceSays, BinSays, BinPixelsSays, ReadSays, ReleaseSays, listIn}
 use Rattle.demands.specs.History.{Entry, binned, binned-pixels, found, released, numberOf, Step, Run, lessRoom}
-use Rattle.demands.proofs.Touched.{touched-tiles-distinct}
+use Rattle.calls.proofs.Placing.{touched-distinct}
 use Rattle.demands.proofs.Demand1.{demand-1}
 
 -- the second pool answers so too, and leaves words that are still n blocks wider than q
@@ -58,7 +58,7 @@ module _ {n : ℕ} {p w : List ℕ} {s : State} (W : Wider edition n p w s) wher
       → Follows n (λ v. PlaceSays w shape id a v) q
   place-follows i (PlaceSays.no-room ts T l e f) ne = absurd (ne (ap (λ (b : Binned). b .number) e))
   place-follows {shape} {id} {a} {q} i (PlaceSays.done ts T l e f) ne =
-      let D = touched-tiles-distinct T in
+      let D = touched-distinct T in
       let T′ : TouchedTiles (screenOf w) shape ts = subst (λ (d : Screen). TouchedTiles d shape ts) (sym (W .screens)) T in
       let same : need edition w ts ≡ need edition p ts = wider-need edition-fair W ts D in
       let more = wider-free edition-fair W in

@@ -18,7 +18,8 @@ use Rattle.calls.specs.declared.Binned.{Binned}
 use Rattle.calls.specs.declared.Released.{Released}
 use Rattle.calls.specs.declared.Found.{Found}
 use Rattle.calls.specs.declared.Answered.{Answered}
-use Rattle.calls.specs.Tables.{OpenSays, AuditSays, PlaceSays, BinSays, BinPixelsSays, ReadSays, ReleaseSays, refusedBin}
+use Rattle.pool.specs.Opening.{OpenSays}
+use Rattle.calls.specs.Tables.{AuditSays, PlaceSays, BinSays, BinPixelsSays, ReadSays, ReleaseSays, refusedBin}
 use Rattle.calls.specs.Questions.{RefusedWith, TouchSays, BoxSays, CornerSays}
 use Rattle.demands.specs.History.{Entry, binned, binned-pixels, found, released, numberOf, Step}
 use Rattle.demands.specs.Demand1.{Among, refusals, RestZero, Outside, Demand1, Demand1Open, Demand1Audit, Demand1Question}
@@ -86,7 +87,7 @@ release-1 {p} {t} {a} {q} (ReleaseSays.done S h e f) =
 
 -- ---- the calls that are no part of a history
 
-pub demand-1-open : {p : List ℕ} {d : Screen} {blocks number : ℕ} {q : List ℕ} → OpenSays p d blocks number q → Demand1Open p d blocks number q
+pub demand-1-open : {p : List ℕ} {d : Screen} {blocks number : ℕ} {q : List ℕ} → OpenSays edition p d blocks number q → Demand1Open p d blocks number q
 demand-1-open (OpenSays.bad-screen n e f) = record { number-is = inr (inl e); refused = λ _. f; accepted = λ z. absurd (omega arith) }
 demand-1-open (OpenSays.too-many s m e f) = record { number-is = inr (inr (inl e)); refused = λ _. f; accepted = λ z. absurd (omega arith) }
 demand-1-open (OpenSays.too-short s m l e f) = record { number-is = inr (inr (inr (inl e))); refused = λ _. f; accepted = λ z. absurd (omega arith) }

@@ -15,7 +15,8 @@ use Rattle.pool.proofs.Words.{edition-fair}
 use Rattle.pool.proofs.Opening.{header-fits, open-sound, opening-opened, opening-screen, opening-tiles, opening-blocks, opening-shows, opening-lists-empty}
 use Rattle.lists.specs.Wider.{widen, Wider}
 use Rattle.lists.proofs.Widening.{widen-opening, wider-free, wider-poison}
-use Rattle.calls.specs.Tables.{OpenSays, listIn}
+use Rattle.pool.specs.Opening.{OpenSays}
+use Rattle.calls.specs.Tables.{listIn}
 use Rattle.demands.specs.History.{lessRoom}
 use Rattle.demands.specs.Demand3.{Demand3Holds, Demand3Runs}
 use Rattle.demands.proofs.Runs.{run-stays, runs-one-outcome}
@@ -30,7 +31,7 @@ record AcceptedOpening (old : List ℕ) (d : Screen) (N : ℕ) (p : List ℕ) : 
   long : room edition (tiles d) N ≤ length old
   is : p ≡ opening edition d N old
 
-accepted-opening : {old : List ℕ} {d : Screen} {N : ℕ} {p : List ℕ} → OpenSays old d N 0 p → AcceptedOpening old d N p
+accepted-opening : {old : List ℕ} {d : Screen} {N : ℕ} {p : List ℕ} → OpenSays edition old d N 0 p → AcceptedOpening old d N p
 accepted-opening (OpenSays.bad-screen n e f) = absurd (omega arith)
 accepted-opening (OpenSays.too-many s m e f) = absurd (omega arith)
 accepted-opening (OpenSays.too-short s m l e f) = absurd (omega arith)

@@ -21,7 +21,7 @@ use Rattle.calls.specs.Tables.{listIn}
 use Rattle.demands.specs.History.{Entry, binned, binned-pixels, found, released, numberOf, Step, Run}
 use Rattle.demands.specs.Demand2.{Listed, Emptied}
 use Rattle.demands.specs.Demand3.{Effect, appends, empties, nothing, appendsSnapped, accepted, effectOf, Becomes, ListedBy}
-use Rattle.demands.proofs.Touched.{touched-or-not}
+use Rattle.walk.proofs.Touched.{touched-or-not}
 use Rattle.demands.proofs.Demand1.{demand-1}
 use Rattle.demands.proofs.Demand2.{demand-2-bin, demand-2-pixels, demand-2-release}
 use Rattle.demands.proofs.Runs.{run-stays}

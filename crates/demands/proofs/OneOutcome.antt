@@ -15,11 +15,12 @@ use Rattle.calls.specs.declared.Binned.{Binned}
 use Rattle.calls.specs.declared.Released.{Released}
 use Rattle.calls.specs.declared.Found.{Found}
 use Rattle.calls.specs.declared.Answered.{Answered}
-use Rattle.calls.specs.Tables.{OpenSays, AuditSays, PlaceSays, BinSays, BinPixelsSays, ReadSays, ReleaseSays}
+use Rattle.pool.specs.Opening.{OpenSays}
+use Rattle.calls.specs.Tables.{AuditSays, PlaceSays, BinSays, BinPixelsSays, ReadSays, ReleaseSays}
 use Rattle.calls.specs.Questions.{RefusedWith, InOrder, TouchSays, BoxSays, CornerSays}
-use Rattle.demands.proofs.Touched.{touched-tiles-unique}
+use Rattle.walk.proofs.Touched.{touched-tiles-unique}
 
-pub open-one-outcome : {p : List ℕ} {d : Screen} {blocks a b : ℕ} {q r : List ℕ} → OpenSays p d blocks a q → OpenSays p d blocks b r → (a ≡ b) × (q ≡ r)
+pub open-one-outcome : {p : List ℕ} {d : Screen} {blocks a b : ℕ} {q r : List ℕ} → OpenSays edition p d blocks a q → OpenSays edition p d blocks b r → (a ≡ b) × (q ≡ r)
 open-one-outcome (OpenSays.bad-screen n e f) (OpenSays.bad-screen n′ e′ f′) = (cc, cc)
 open-one-outcome (OpenSays.bad-screen n e f) (OpenSays.too-many s′ m′ e′ f′) = absurd (n s′)
 open-one-outcome (OpenSays.bad-screen n e f) (OpenSays.too-short s′ m′ l′ e′ f′) = absurd (n s′)

@@ -10,10 +10,12 @@ use lib.ListN.{length}
 use Rattle.pool.specs.Words.{edition, start, room, headerWord, tileWord, blockWord}
 use Rattle.pool.specs.State.{State, tileOf, linkTo, lastLink, one, times}
 use Rattle.pool.specs.Sound.{Shows, tilesOf, blocksOf}
+use Rattle.pool.specs.Lists.{listOf}
 use Rattle.pool.proofs.Words.{edition-fair, row-within, header≤start, start≤room}
 use Rattle.pool.proofs.Times.{one-same, times-append}
 use Rattle.pool.proofs.Parts.{ceil-some}
 use Rattle.pool.proofs.Chain.{uncons, unsnoc, lastLink-snoc}
+use Rattle.pool.proofs.Lists.{listOf-shows}
 use Rattle.pool.proofs.State.{tile-block<, free-block<}
 use Rattle.pool.proofs.Total.{entries≤}
 use Rattle.lists.specs.Appending.{multiple, need}
@@ -40,6 +42,9 @@ module _ {p : List ℕ} {T t : ℕ} (G : Among p T t) where
 
   pub entries-fit : tileWord edition p t 0 + 1 < 2 ^ 32
   entries-fit = omega (arith, shown .tile t (G .tile) .entries, entries≤ shown edition-fair t (G .tile), G .sound .opened .blocks≤)
+
+  pub entries-list : length (listOf edition T p t) ≡ tileWord edition p t 0
+  entries-list = ap length (listOf-shows edition-fair shown t (G .tile)) ∙ sym (shown .tile t (G .tile) .entries)
 
   -- a tile with entries has a last block
   pub last-reach : tileWord edition p t 0 ≢ 0 → (0 < tileWord edition p t 2) × BlockIn T p (tileWord edition p t 2 - 1) (edition .ids)

@@ -36,22 +36,23 @@ pub record Reading (T N : ℕ) (p : List ℕ) (link left v : ℕ) : Type 0 where
   pub below : (b : ℕ) → 0 < times b blocks → b < N
   pub value : getD list left 0 ≡ v
 
-pub reading-start : {p : List ℕ} {T t : ℕ} (G : Among p T t) (place : ℕ) → place < tileWord edition p t 0
+pub reading-start : {p : List ℕ} {T t : ℕ} (G : Among p T t) (place : ℕ) → place < length (listOf edition T p t)
     → Reading T (blocksOf p) p (tileWord edition p t 1) place (getD (listOf edition T p t) place 0)
 reading-start {p} {T} {t} G place h =
     let R = shown G in
     let k = R .tile t (G .tile) in
     let x = tileOf (G .sound .state) t in
+    let e = listOf-shows edition-fair R t (G .tile) in
     record {
       blocks = x .blocks;
       list = x .list;
       linked = k .first;
       held = k .held;
       enough = blocks-enough edition-fair k;
-      inside = omega (arith, k .entries);
+      inside = omega (arith, ap length e);
       long = roomed G;
       below = tile-block< R t;
-      value = ap (λ (l : List ℕ). getD l place 0) (sym (listOf-shows edition-fair R t (G .tile)));
+      value = ap (λ (l : List ℕ). getD l place 0) (sym e);
     }
 
 module _ {T N : ℕ} {p : List ℕ} {link left v : ℕ} (G : Reading T N p link left v) where

@@ -2,18 +2,19 @@
 use mathlib.Core.Path.{_≡_, refl, sym, ap, _∙_}
 use mathlib.Core.Logic.{_≢_}
 use mathlib.Core.List.{List, [], _∷_}
-use Prim.Native.Nat.{ℕ, zero, suc, _+_, _-_, _^_, _≤_, _<_}
+use Prim.Native.Nat.{ℕ, zero, suc, _+_, _*_, _-_, _^_, _≤_, _<_}
 use native.Mathlib.Nat.{not-suc-le-zero}
 use native.Mathlib.Omega.{arith}
-use lib.ListN.{length, drop}
+use lib.ListN.{length, drop, set}
 use Rattle.numbers.specs.Ceil.{ceil}
 use Rattle.pool.specs.Words.{edition, room, headerWord, tileWord, blockWord, tileSet}
 use Rattle.pool.specs.State.{State, tileOf, linkTo, times, Holds}
 use Rattle.pool.specs.Sound.{Shows, blocksOf}
+use Rattle.pool.specs.Lists.{listOf}
 use Rattle.pool.proofs.Words.{edition-fair}
 use Rattle.pool.proofs.Times.{one-same, one-other, times-head, times-tail, times-differ, timesInTiles-at}
 use Rattle.pool.proofs.Chain.{frame}
-use Rattle.pool.proofs.Lists.{blocks≤entries}
+use Rattle.pool.proofs.Lists.{blocks≤entries, listOf-shows}
 use Rattle.pool.proofs.State.{times≤, tile-block<}
 use Rattle.pool.proofs.Total.{blocks-total, blocksInTiles-at}
 use Rattle.lists.specs.Releasing.{giveBlock, giveChain, release}
@@ -45,13 +46,14 @@ pub record Giving (T N : ℕ) (p : List ℕ) (link given : ℕ) (e : List ℕ) (
 
 pub giving-start : {p : List ℕ} {T t : ℕ} → Among p T t
     → Giving T (blocksOf p) p (tileWord edition p t 1) 0 (giveChain edition T (tileWord edition p t 0) (tileWord edition p t 1) p)
-    (ceil (tileWord edition p t 0) (edition .ids))
+    (ceil (length (listOf edition T p t)) (edition .ids))
 giving-start {p} {T} {t} G =
     let R = shown G in
     let s = G .sound .state in
     let k = R .tile t (G .tile) in
     let x = tileOf s t in
-    let many : length (x .blocks) ≡ ceil (tileWord edition p t 0) (edition .ids) = k .many ∙ ap (λ (q : ℕ). ceil q (edition .ids)) (sym (k .entries)) in
+    let many : length (x .blocks) ≡ ceil (length (listOf edition T p t)) (edition .ids)
+    = k .many ∙ ap (λ (l : List ℕ). ceil (length l) (edition .ids)) (sym (listOf-shows edition-fair R t (G .tile))) in
     let sum : length (s .free) + length (x .blocks) ≤ blocksOf p = omega (arith, blocks-total R, blocksInTiles-at (s .tiles) t) in
     record {
       n = length (x .list);
@@ -137,8 +139,10 @@ giving-end {T} {N} {p} {link} {given} {e} {m} G l = go (G .n) (G .blocks) (G .li
     go (suc n) [] w ends c = (ends, omega arith)
     go n (b ∷ bs) w ends c = absurd (omega arith)
 
--- the stores at the end
-pub release-stores : (T : ℕ) (p : List ℕ) (t : ℕ) (g q₀ q₁ q₂ : List ℕ) → g ≡ giveChain edition T (tileWord edition p t 0) (tileWord edition p t 1) p
-    → q₀ ≡ tileSet edition g t 0 0 → q₁ ≡ tileSet edition q₀ t 1 0 → q₂ ≡ tileSet edition q₁ t 2 0 → q₂ ≡ release edition T p t
-unfolding release
-release-stores T p t g q₀ q₁ q₂ e a b c = rw (c, b, a, e)
+-- the stores at the end, at the places i, j and k
+pub release-stores : (T : ℕ) (p : List ℕ) (t : ℕ) (g : List ℕ) (i j k : ℕ)
+    → g ≡ giveChain edition T (tileWord edition p t 0) (tileWord edition p t 1) p
+    → i ≡ edition .header + edition .tile * t + 0 → j ≡ edition .header + edition .tile * t + 1 → k ≡ edition .header + edition .tile * t + 2
+    → set (set (set g i 0) j 0) k 0 ≡ release edition T p t
+unfolding release tileSet
+release-stores T p t g i j k e a b c = rw (a, b, c, e)

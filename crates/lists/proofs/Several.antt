@@ -17,7 +17,7 @@ use Rattle.lists.specs.Steps.{appendState, appendAllState, needState}
 use Rattle.lists.specs.Promises.{Kept, Appended}
 use Rattle.lists.proofs.Within.{Within, within-none, within-then}
 use Rattle.lists.proofs.Appends.{Step, append-step}
-use Rattle.lists.proofs.Counts.{append-other, append-free, append-frees-none, append-all-other, append-all-list, append-all-frees-none, distinct-first, distinct-rest, need-other, need-shows}
+use Rattle.lists.proofs.Counts.{append-other, append-free, append-frees-none, append-all-other, append-all-list, append-all-frees-none, distinct-one, distinct-first, distinct-rest, need-other, need-shows}
 
 -- the pool q, which keeps the fixed words of the sound pool p, is sound with the state that it shows
 abbrev pub sound-with : {L : Layout} {p q : List ℕ} → Fair L → Sound L p → Keeps L p q → (r : State) → Shows L (tilesOf p) (blocksOf p) q r → Sound L q
@@ -96,3 +96,9 @@ append-all-appends {L} {p} A S ts id D hid enough =
 pub append-all-keeps-sound : {L : Layout} {p : List ℕ} → Fair L → Sound L p → (ts : List ℕ) (id : ℕ) → Distinct (tilesOf p) ts → id < L .limit
     → need L p ts ≤ headerWord p 4 → Sound L (appendAll L (tilesOf p) p ts id)
 append-all-keeps-sound A S ts id D hid enough = append-all-appends A S ts id D hid enough .sound
+
+-- for one tile
+pub append-keeps-sound : {L : Layout} {p : List ℕ} → Fair L → Sound L p → (t id : ℕ) → t < tilesOf p → id < L .limit → need L p (t ∷ []) ≤ headerWord p 4
+    → Sound L (append L (tilesOf p) p t id)
+unfolding appendAll
+append-keeps-sound A S t id ht hid enough = append-all-keeps-sound A S (t ∷ []) id (distinct-one ht) hid enough

@@ -2,10 +2,9 @@
 use mathlib.Core.Path.{_≡_, refl, ap, sym, _∙_}
 use mathlib.Core.List.{List}
 use Prim.Native.Nat.{ℕ, suc, _+_, _*_, _≤_}
-use native.Mathlib.Omega.{arith}
 use lib.ListN.{length}
-use Rattle.pool.specs.Words.{Layout, edition, start, room}
-use Rattle.pool.specs.Sound.{tilesOf, blocksOf, Opened}
+use Rattle.pool.specs.Words.{Layout, start, room}
+use Rattle.pool.specs.Sound.{Opened}
 use Rattle.audit.specs.Answer.{HeaderOf, AuditSays}
 use Rattle.audit.specs.declared.Header.{Header}
 use Rattle.audit.specs.declared.Audited.{Audited}

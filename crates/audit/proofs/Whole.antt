@@ -1,18 +1,18 @@
 -- The words of a pool say a state exactly where the walks find its chains right; the state is that of the chains that the links lead to.
 use mathlib.Core.Path.{_≡_, refl, ap, sym, _∙_, subst}
 use mathlib.Core.List.{List, [], _∷_}
-use Prim.Native.Nat.{ℕ, zero, suc, _+_, _-_, _*_, _<_, _≤_}
+use Prim.Native.Nat.{ℕ, zero, suc, _+_, _*_, _<_, _≤_}
 use native.Mathlib.Nat.{not-suc-le-zero, le-of-suc-le-suc}
 use native.Mathlib.Omega.{arith}
 use lib.ListN.{length, getD, take}
 use Rattle.numbers.specs.Ceil.{ceil}
 use Rattle.numbers.proofs.Ceil.{ceil-enough}
 use Rattle.pool.specs.Words.{Layout, start, headerWord, tileWord, blockWord}
-use Rattle.pool.specs.State.{Chained, empty, State, tileOf, linkTo, lastLink, times, timesInTiles, timesInAll, Holds}
+use Rattle.pool.specs.State.{Chained, empty, State, tileOf, lastLink, times, timesInTiles}
 use Rattle.pool.specs.Sound.{tilesOf, blocksOf, Opened, TileShows, Shows, Sound}
 use Rattle.pool.proofs.State.{tile-block<, free-block<}
-use Rattle.audit.specs.Chain.{Chain, Filled, Places, follow, next, Run, timesInFirst}
-use Rattle.audit.specs.Walk.{wordOf, chainFrom, chainOf, freeOf, TileRight, TilesRight, FreeRight, ChainsRight}
+use Rattle.audit.specs.Chain.{Chain, Filled, Places, next, Run, timesInFirst}
+use Rattle.audit.specs.Walk.{wordOf, chainFrom, chainOf, freeOf, TileRight, FreeRight, ChainsRight}
 use Rattle.audit.proofs.Follow.{length-follow, follow-chain}
 use Rattle.audit.proofs.Held.{laid, length-list, held, ids-filled, chain-link, chain-none, chain-held, filled-held}
 
@@ -55,6 +55,10 @@ times-row : (b n : ℕ) (f : ℕ → Chained) → timesInTiles b (row n f) ≡ t
 times-row b zero f = refl
 times-row b (suc n) f = omega (arith, times-front b (λ t. f t .blocks) n, times-row b n (λ t. f (suc t)))
 
+-- the link of a block, in a pool of T tiles
+abbrev links : Layout → (T : ℕ) → List ℕ → (b : ℕ) → ℕ
+links L T p = next L (wordOf L p (start L T))
+
 module _ (L : Layout) (0<ids : 0 < L .ids) (T N : ℕ) (p : List ℕ) where
   -- ---- from the walks to the state
 
@@ -74,12 +78,12 @@ module _ (L : Layout) (0<ids : 0 < L .ids) (T N : ℕ) (p : List ℕ) where
   tile-shows t h =
       let q = tileWord L p t 0 in
       let bs = chainOf L p (start L T) t in
-      let many = length-follow (next L (wordOf L p (start L T))) (ceil q (L .ids)) (tileWord L p t 1) in
+      let many = length-follow (links L T p) (ceil q (L .ids)) (tileWord L p t 1) in
       let enough : q ≤ L .ids * length bs = rw many (ceil-enough q (L .ids) 0<ids) in
       let len = length-list L (blockWord L T p) q bs enough in
       record {
         entries = sym len;
-        first = chain-link (next L (wordOf L p (start L T))) N (tileWord L p t 1) bs (h .run .chain);
+        first = chain-link (links L T p) N (tileWord L p t 1) bs (h .run .chain);
         last = h .last;
         many = many ∙ ap (λ (k : ℕ). ceil k (L .ids)) (sym len);
         in-range = λ i lt. ids-filled L (blockWord L T p) q bs (h .run .filled) enough i (omega arith);
@@ -90,10 +94,9 @@ module _ (L : Layout) (0<ids : 0 < L .ids) (T N : ℕ) (p : List ℕ) where
   unfolding blockWord
   shows-found h =
       let free = freeOf L p (start L T) in
-      let link = next L (wordOf L p (start L T)) in
       record {
-        count = sym (length-follow link (headerWord p 4) (headerWord p 5));
-        first = chain-link link N (headerWord p 5) free (h .free .chain);
+        count = sym (length-follow (links L T p) (headerWord p 4) (headerWord p 5));
+        first = chain-link (links L T p) N (headerWord p 5) free (h .free .chain);
         poisoned = held L (blockWord L T p) N (headerWord p 5) 0 free (h .free .chain) (h .free .filled);
         tiled = length-row T tileFound;
         tile = λ t lt. rw (getD-row T tileFound t lt) (tile-shows t (h .tiles t lt));
@@ -102,26 +105,26 @@ module _ (L : Layout) (0<ids : 0 < L .ids) (T N : ℕ) (p : List ℕ) where
             omega (
               arith,
               times-row b T tileFound,
-              chain-none link N (headerWord p 5) free (h .free .chain) b le,
+              chain-none (links L T p) N (headerWord p 5) free (h .free .chain) b le,
               times-none b (chainOf L p (start L T)) T
-                  (λ t lt. chain-none link N (tileWord L p t 1) (chainOf L p (start L T) t) (h .tiles t lt .run .chain) b le),
+                  (λ t lt. chain-none (links L T p) N (tileWord L p t 1) (chainOf L p (start L T) t) (h .tiles t lt .run .chain) b le),
             );
       }
 
   -- ---- and back
 
   -- a chain of that many blocks is what the links lead to
-  found : (link k : ℕ) (bs : List ℕ) → Chain (next L (wordOf L p (start L T))) N link bs → length bs ≡ k
+  found : (link k : ℕ) (bs : List ℕ) → Chain (links L T p) N link bs → length bs ≡ k
       → bs ≡ chainFrom L p (start L T) k link
   found link k bs c e =
-      follow-chain (next L (wordOf L p (start L T))) N link bs c ∙ ap (λ (j : ℕ). chainFrom L p (start L T) j link) e
+      follow-chain (links L T p) N link bs c ∙ ap (λ (j : ℕ). chainFrom L p (start L T) j link) e
 
   module _ (s : State) (h : Shows L T N p s) where
-    free-chain : Chain (next L (wordOf L p (start L T))) N (headerWord p 5) (s .free)
+    free-chain : Chain (links L T p) N (headerWord p 5) (s .free)
     unfolding blockWord
     free-chain = rw (h .first) (chain-held L (blockWord L T p) N (s .free) [] (free-block< h) (h .poisoned))
 
-    tile-chain : (t : ℕ) → t < T → Chain (next L (wordOf L p (start L T))) N (tileWord L p t 1) (tileOf s t .blocks)
+    tile-chain : (t : ℕ) → t < T → Chain (links L T p) N (tileWord L p t 1) (tileOf s t .blocks)
     unfolding blockWord
     tile-chain t lt =
         let x = h .tile t lt in
@@ -136,12 +139,12 @@ module _ (L : Layout) (0<ids : 0 < L .ids) (T N : ℕ) (p : List ℕ) where
         found (tileWord L p t 1) (ceil (tileWord L p t 0) (L .ids)) (tileOf s t .blocks) (tile-chain t lt)
         (x .many ∙ ap (λ (k : ℕ). ceil k (L .ids)) (sym (x .entries)))
 
-    -- blocks of a right chain that are a right run
-    run-of : (link q k : ℕ) (bs : List ℕ) → bs ≡ chainFrom L p (start L T) k link → Chain (next L (wordOf L p (start L T))) N link bs
+    -- a right chain is a right run of the blocks that its links lead to
+    run-of : (link q k : ℕ) (bs : List ℕ) → bs ≡ chainFrom L p (start L T) k link → Chain (links L T p) N link bs
         → Filled (λ b. Places L (wordOf L p (start L T) b)) (L .ids) q bs → Run L (wordOf L p (start L T)) N link q k
     run-of link q k bs e c f =
         record {
-          chain = subst (λ (l : List ℕ). Chain (next L (wordOf L p (start L T))) N link l) e c;
+          chain = subst (λ (l : List ℕ). Chain (links L T p) N link l) e c;
           filled = subst (λ (l : List ℕ). Filled (λ b. Places L (wordOf L p (start L T) b)) (L .ids) q l) e f;
         }
 

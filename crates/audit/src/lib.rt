@@ -1,5 +1,5 @@
-// The audit of a pool: whether a slice of words is a sound pool, for any words and any length. No function asks the caller for a sound pool. Every block is
-// marked as it is met, and no chain is followed past a marked block, so that an audit reads each word of the pool at most a few times.
+// The audit of a pool: whether a slice of words is a sound pool, for any words and any length. It asks nothing of its caller and changes nothing.
+// Each block is marked as it is met, and no chain is followed past a marked block: the time is linear in the room, whatever the words are.
 use numbers::wide;
 use pool::BLOCK_IDS;
 use pool::BLOCK_WORDS;

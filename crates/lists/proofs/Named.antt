@@ -7,8 +7,12 @@ use native.Mathlib.Nat.{not-suc-le-zero, le-of-suc-le-suc}
 use native.Mathlib.Omega.{arith}
 use lib.ListN.{length, getD}
 use Rattle.numbers.proofs.Ceil.{eq-or-ne}
+use Rattle.pool.specs.Words.{Layout, Fair, tileWord}
 use Rattle.pool.specs.State.{times}
+use Rattle.pool.specs.Sound.{Sound, tilesOf}
+use Rattle.pool.specs.Lists.{listOf}
 use Rattle.pool.proofs.Times.{one-same, one-other, times-head, times-tail}
+use Rattle.pool.proofs.Lists.{listOf-shows}
 use Rattle.lists.specs.Appending.{Distinct}
 
 pub place-named : (ts : List ℕ) (i : ℕ) → i < length ts → 0 < times (getD ts i 0) ts
@@ -47,3 +51,7 @@ rising-distinct {T} ts up below = record {
   once = rising-once ts up;
   below = λ t h. let r = named-place ts t h in omega (arith, r .2, below (r .0) (r .1));
 }
+
+-- the length of a tile's list is its entries
+pub list-length : {L : Layout} {p : List ℕ} → Fair L → (S : Sound L p) (t : ℕ) → t < tilesOf p → length (listOf L (tilesOf p) p t) ≡ tileWord L p t 0
+list-length A S t ht = ap length (listOf-shows A (S .shows) t ht) ∙ sym (S .shows .tile t ht .entries)

@@ -9,7 +9,7 @@ use borrow.Author.Tests.{eq-eqb}
 use lib.ListN.{length}
 use Rattle.pool.specs.Words.{edition, start, room, headerWord, tileWord, blockWord}
 use Rattle.pool.specs.State.{State, tileOf, linkTo, lastLink, one, times}
-use Rattle.pool.specs.Sound.{Shows, tilesOf, blocksOf}
+use Rattle.pool.specs.Sound.{Shows, Sound, tilesOf, blocksOf}
 use Rattle.pool.specs.Lists.{listOf}
 use Rattle.pool.proofs.Words.{edition-fair, row-within, header≤start, start≤room}
 use Rattle.pool.proofs.Times.{one-same, times-append}
@@ -26,6 +26,10 @@ pub block-in : (T N : ℕ) (p : List ℕ) (b k : ℕ) → room edition T N ≤ l
 unfolding room
 block-in T N p b k long hb hk = let h : k < suc (edition .ids) = omega arith in omega (arith, row-within (suc (edition .ids)) h hb)
 
+-- the header lies in a sound pool
+pub header-in : {p : List ℕ} → Sound edition p → edition .header ≤ length p
+header-in {p} S = omega (arith, header≤start edition (tilesOf p), start≤room edition (tilesOf p) (blocksOf p), S .opened .long)
+
 module _ {p : List ℕ} {T t : ℕ} (G : Among p T t) where
   pub shown : Shows edition T (blocksOf p) p (G .sound .state)
   shown = subst (λ (n : ℕ). Shows edition n (blocksOf p) p (G .sound .state)) (sym (G .tiles)) (G .sound .shows)
@@ -36,9 +40,6 @@ module _ {p : List ℕ} {T t : ℕ} (G : Among p T t) where
   pub tile-in : {i : ℕ} → i < edition .tile → TileIn p t i
   unfolding start
   tile-in {i} hi = omega (arith, row-within (edition .tile) hi (G .tile), start≤room edition T (blocksOf p), roomed)
-
-  pub header-in : edition .header ≤ length p
-  header-in = omega (arith, header≤start edition T, start≤room edition T (blocksOf p), roomed)
 
   pub entries-fit : tileWord edition p t 0 + 1 < 2 ^ 32
   entries-fit = omega (arith, shown .tile t (G .tile) .entries, entries≤ shown edition-fair t (G .tile), G .sound .opened .blocks≤)

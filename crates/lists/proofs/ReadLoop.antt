@@ -36,7 +36,7 @@ pub record Reading (T N : ℕ) (p : List ℕ) (link left v : ℕ) : Type 0 where
   pub below : (b : ℕ) → 0 < times b blocks → b < N
   pub value : getD list left 0 ≡ v
 
-pub reading-start : {p : List ℕ} {T t : ℕ} (G : Among p T t) (place : ℕ) → place < length (listOf edition T p t)
+pub reading-start : {p : List ℕ} {T t : ℕ} (G : Among p T t) (place : ℕ) → place < tileWord edition p t 0
     → Reading T (blocksOf p) p (tileWord edition p t 1) place (getD (listOf edition T p t) place 0)
 reading-start {p} {T} {t} G place h =
     let R = shown G in
@@ -49,7 +49,7 @@ reading-start {p} {T} {t} G place h =
       linked = k .first;
       held = k .held;
       enough = blocks-enough edition-fair k;
-      inside = omega (arith, ap length e);
+      inside = omega (arith, k .entries);
       long = roomed G;
       below = tile-block< R t;
       value = ap (λ (l : List ℕ). getD l place 0) (sym e);

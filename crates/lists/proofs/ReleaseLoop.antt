@@ -10,11 +10,10 @@ use Rattle.numbers.specs.Ceil.{ceil}
 use Rattle.pool.specs.Words.{edition, room, headerWord, tileWord, blockWord, tileSet}
 use Rattle.pool.specs.State.{State, tileOf, linkTo, times, Holds}
 use Rattle.pool.specs.Sound.{Shows, blocksOf}
-use Rattle.pool.specs.Lists.{listOf}
 use Rattle.pool.proofs.Words.{edition-fair}
 use Rattle.pool.proofs.Times.{one-same, one-other, times-head, times-tail, times-differ, timesInTiles-at}
 use Rattle.pool.proofs.Chain.{frame}
-use Rattle.pool.proofs.Lists.{blocks≤entries, listOf-shows}
+use Rattle.pool.proofs.Lists.{blocks≤entries}
 use Rattle.pool.proofs.State.{times≤, tile-block<}
 use Rattle.pool.proofs.Total.{blocks-total, blocksInTiles-at}
 use Rattle.lists.specs.Releasing.{giveBlock, giveChain, release}
@@ -46,14 +45,13 @@ pub record Giving (T N : ℕ) (p : List ℕ) (link given : ℕ) (e : List ℕ) (
 
 pub giving-start : {p : List ℕ} {T t : ℕ} → Among p T t
     → Giving T (blocksOf p) p (tileWord edition p t 1) 0 (giveChain edition T (tileWord edition p t 0) (tileWord edition p t 1) p)
-    (ceil (length (listOf edition T p t)) (edition .ids))
+    (ceil (tileWord edition p t 0) (edition .ids))
 giving-start {p} {T} {t} G =
     let R = shown G in
     let s = G .sound .state in
     let k = R .tile t (G .tile) in
     let x = tileOf s t in
-    let many : length (x .blocks) ≡ ceil (length (listOf edition T p t)) (edition .ids)
-    = k .many ∙ ap (λ (l : List ℕ). ceil (length l) (edition .ids)) (sym (listOf-shows edition-fair R t (G .tile))) in
+    let many : length (x .blocks) ≡ ceil (tileWord edition p t 0) (edition .ids) = k .many ∙ ap (λ (q : ℕ). ceil q (edition .ids)) (sym (k .entries)) in
     let sum : length (s .free) + length (x .blocks) ≤ blocksOf p = omega (arith, blocks-total R, blocksInTiles-at (s .tiles) t) in
     record {
       n = length (x .list);

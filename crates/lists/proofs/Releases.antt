@@ -24,7 +24,7 @@ use Rattle.lists.specs.Steps.{onto, releaseState}
 use Rattle.lists.specs.Promises.{Kept, Released}
 use Rattle.lists.proofs.Within.{Within, within-then, within-tile}
 use Rattle.lists.proofs.Gives.{Given, give-all, times-onto, length-onto}
-use Rattle.lists.proofs.Several.{sound-with}
+use Rattle.lists.proofs.Several.{kept-keeps, sound-with}
 
 module _ {L : Layout} {T N : ℕ} {p : List ℕ} {s : State} (A : Fair L) (R : Shows L T N p s) (long : room L T N ≤ length p) (t : ℕ) (ht : t < T) where
   -- the chain of the tile, given back
@@ -93,7 +93,7 @@ release-releases {L} {p} A S t ht =
     let after : (u : ℕ) → u < tilesOf p → listOf L (tilesOf p) (release L (tilesOf p) p t) u ≡ tileOf (releaseState s t) u .list = listOf-shows A (I .0) in
     let many : length (x .blocks) ≡ ceil (length (listOf L (tilesOf p) p t)) (L .ids) = k .many ∙ ap (λ (l : List ℕ). ceil (length l) (L .ids)) (sym (before t ht)) in
     record {
-      sound = sound-with A S (record { long = K .long; fixed = K .header }) (releaseState s t) (I .0);
+      sound = sound-with A S (kept-keeps K) (releaseState s t) (I .0);
       says = refl;
       emptied = after t ht ∙ ap (λ (y : Chained). y .list) (getD-set-same (s .tiles) t empty empty ht′);
       others = λ u hu ne. after u hu ∙ ap (λ (y : Chained). y .list) (getD-set-other (s .tiles) t u empty empty ne) ∙ sym (before u hu);

@@ -28,6 +28,10 @@ sound-with {L} {p} {q} A S K r R = record {
       (subst (λ (N : ℕ). Shows L (tilesOf p) N q r) (sym (keeps-blocks A K)) R);
 }
 
+-- what is kept has the fixed words of the header, and so the screen, the tiles and the blocks
+pub kept-keeps : {L : Layout} {T N : ℕ} {p q : List ℕ} {s r : State} {ts : List ℕ} → Kept L T N p q s r ts → Keeps L p q
+kept-keeps K = record { long = K .long; fixed = K .header }
+
 module _ {L : Layout} {T N : ℕ} (A : Fair L) (id : ℕ) (hid : id < L .limit) where
   -- what is shown, what stays, and what is left of the free chain
   pub append-all-shows : {p : List ℕ} {s : State} (ts : List ℕ) → Shows L T N p s → room L T N ≤ length p → Distinct T ts
@@ -85,7 +89,7 @@ append-all-appends {L} {p} A S ts id D hid enough =
     let before : (u : ℕ) → u < tilesOf p → listOf L (tilesOf p) p u ≡ tileOf s u .list = listOf-shows A R in
     let after : (u : ℕ) → u < tilesOf p → listOf L (tilesOf p) (appendAll L (tilesOf p) p ts id) u ≡ tileOf r u .list = listOf-shows A (I .0) in
     record {
-      sound = sound-with A S (record { long = K .long; fixed = K .header }) r (I .0);
+      sound = sound-with A S (kept-keeps K) r (I .0);
       says = refl;
       gains = λ t h. after t (D .below t h) ∙ append-all-list (L .ids) s ts id t D′ h ∙ sym (ap (λ (l : List ℕ). l ++ (id ∷ [])) (before t (D .below t h)));
       others = λ u hu z. after u hu ∙ ap (λ (x : Chained). x .list) (append-all-other (L .ids) s ts id u z) ∙ sym (before u hu);

@@ -26,7 +26,7 @@ use Rattle.lists.specs.Releasing.{release}
 use Rattle.lists.specs.Steps.{headOr, tail, onto, inNew, inLast, appendState, appendAllState, needState, releaseState}
 use Rattle.lists.specs.Wider.{widen, Wider}
 use Rattle.lists.proofs.Counts.{append-free, need-other, need-shows, distinct-first, distinct-rest}
-use Rattle.lists.proofs.Several.{append-all-shows}
+use Rattle.lists.proofs.Several.{kept-keeps, append-all-shows}
 use Rattle.lists.proofs.Releases.{release-shows}
 
 -- ---- the steps do not see the blocks at the end of the free chain
@@ -150,7 +150,7 @@ module _ {L : Layout} {n : ℕ} {p w : List ℕ} {s : State} (A : Fair L) (W : W
       let J = append-all-shows A id hid ts (W .shows′) room′ D
       (omega (arith, widen-need (L .ids) N n s ts, length-append (s .free) (rising N n))) in
       subst (λ (T : ℕ). Wider L n (appendAll L (tilesOf p) p ts id) (appendAll L T w ts id) (appendAllState (L .ids) s ts id)) (sym wider-tiles)
-      (wider-with (record { long = I .1 .long; fixed = I .1 .header }) (record { long = J .1 .long; fixed = J .1 .header })
+      (wider-with (kept-keeps (I .1)) (kept-keeps (J .1))
       (appendAllState (L .ids) s ts id) (I .0)
       (subst (λ (r : State). Shows L (tilesOf p) (N + n) (appendAll L (tilesOf p) w ts id) r) (widen-append-all (L .ids) (tilesOf p) N n s ts id D fits) (J .0)))
 
@@ -160,7 +160,7 @@ module _ {L : Layout} {n : ℕ} {p w : List ℕ} {s : State} (A : Fair L) (W : W
       let I = release-shows A (W .shows) (W .opened .long) t ht in
       let J = release-shows A (W .shows′) room′ t ht in
       subst (λ (T : ℕ). Wider L n (release L (tilesOf p) p t) (release L T w t) (releaseState s t)) (sym wider-tiles)
-      (wider-with (record { long = I .1 .long; fixed = I .1 .header }) (record { long = J .1 .long; fixed = J .1 .header }) (releaseState s t) (I .0)
+      (wider-with (kept-keeps (I .1)) (kept-keeps (J .1)) (releaseState s t) (I .0)
       (subst (λ (r : State). Shows L (tilesOf p) (N + n) (release L (tilesOf p) w t) r) (widen-release N n s t) (J .0)))
 
 -- two openings for one screen, the second with n blocks more

@@ -6,6 +6,7 @@ ghost use Prim.Native.Nat.{_+_, _*_, _^_, _≤_, _<_, suc};
 ghost use lib.ListN.{length, take, getD};
 ghost use Rattle.numbers.specs.Ceil.{ceil};
 ghost use Rattle.pool.specs.Words.{edition, start, headerWord, tileWord, blockWord};
+ghost use Rattle.pool.specs.Sound.{Sound};
 ghost use Rattle.pool.specs.Lists.{listOf};
 ghost use Rattle.lists.specs.Appending.{need, append, appendIn, takeHead, takeBlock, appendAll};
 ghost use Rattle.lists.specs.Releasing.{fill, giveBlock, release};
@@ -64,6 +65,23 @@ fn block_word(pool: &[u32], tiles: usize, block: Block, k: usize) -> u32
     ensures { λ r. ⌜ r ≡ blockWord edition tiles (now (pool .entry)) (block .0) k ⌝ }
 {
     pool[block_index(tiles, block, k)]
+}
+
+// How many blocks are free.
+pub fn free(pool: &[u32]) -> u32
+    requires { ⌜ Sound edition (now pool) ⌝ }
+    ensures { λ r. ⌜ r ≡ headerWord (now (pool .entry)) 4 ⌝ }
+{
+    pool[FREE]
+}
+
+// How many entries a tile's list has.
+pub fn entries(pool: &[u32], tiles: usize, tile: Tile) -> u32
+    requires { ⌜ Among (now pool) tiles (tile .0) ⌝ }
+    ensures word { λ r. ⌜ r ≡ tileWord edition (now (pool .entry)) (tile .0) 0 ⌝ }
+    ensures list { λ r. ⌜ r ≡ length (listOf edition tiles (now (pool .entry)) (tile .0)) ⌝ }
+{
+    tile_word(pool, tile, ENTRIES)
 }
 
 // How many blocks an id more in each of the first `count` named tiles takes.
@@ -180,7 +198,7 @@ fn give_block(pool: &mut [u32], tiles: usize, block: Block)
 pub fn release(pool: &mut [u32], tiles: usize, tile: Tile) -> u32
     requires { ⌜ Among (now pool) tiles (tile .0) ⌝ }
     ensures words { λ r. ⌜ now (pool .exit) ≡ release edition tiles (now (pool .entry)) (tile .0) ⌝ }
-    ensures given { λ r. ⌜ r ≡ ceil (length (listOf edition tiles (now (pool .entry)) (tile .0))) (edition .ids) ⌝ }
+    ensures given { λ r. ⌜ r ≡ ceil (tileWord edition (now (pool .entry)) (tile .0) 0) (edition .ids) ⌝ }
 {
     let mut link = tile_word(pool, tile, FIRST);
     let mut given: u32 = 0;
@@ -196,18 +214,10 @@ pub fn release(pool: &mut [u32], tiles: usize, tile: Tile) -> u32
     given
 }
 
-// How many ids a tile's list has.
-pub fn entries_of(pool: &[u32], tiles: usize, tile: Tile) -> u32
-    requires { ⌜ Among (now pool) tiles (tile .0) ⌝ }
-    ensures { λ r. ⌜ r ≡ length (listOf edition tiles (now (pool .entry)) (tile .0)) ⌝ }
-{
-    tile_word(pool, tile, ENTRIES)
-}
-
 // The id at a place of a tile's list, places counted from 0. It passes from block to block, not from id to id.
 pub fn id_at(pool: &[u32], tiles: usize, tile: Tile, place: u32) -> u32
     requires { ⌜ Among (now pool) tiles (tile .0) ⌝ }
-    requires { ⌜ place < length (listOf edition tiles (now pool) (tile .0)) ⌝ }
+    requires { ⌜ place < tileWord edition (now pool) (tile .0) 0 ⌝ }
     ensures { λ r. ⌜ r ≡ getD (listOf edition tiles (now (pool .entry)) (tile .0)) place 0 ⌝ }
 {
     let mut link = tile_word(pool, tile, FIRST);

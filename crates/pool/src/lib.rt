@@ -53,7 +53,7 @@ pub fn room_of(tiles: usize, blocks: usize) -> usize
     requires { ⌜ (tiles ≤ 4096) × (blocks ≤ 2048) ⌝ }
     ensures { λ r. ⌜ r ≡ room edition tiles blocks ⌝ }
 {
-    start_of(tiles) + BLOCK_WORDS * blocks
+    HEADER_WORDS + TILE_WORDS * tiles + BLOCK_WORDS * blocks
 }
 
 // The same word in `count` places.
@@ -132,7 +132,8 @@ fn write_opening(pool: &mut [u32], screen: Screen, blocks: u32)
 pub fn open(pool: &mut [u32], screen: Screen, blocks: u32) -> u32
     ensures { λ r. ⌜ OpenSays edition (now (pool .entry)) screen blocks r (now (pool .exit)) ⌝ }
 {
-    if !screen::allowed(screen) {
+    let allowed = screen::allowed(screen);
+    if !allowed {
         return BAD_SCREEN;
     }
     if MOST_BLOCKS < blocks {

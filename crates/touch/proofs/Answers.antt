@@ -15,7 +15,7 @@ use Rattle.shape.specs.declared.Vertex.{Vertex}
 use Rattle.shape.specs.declared.Shape.{Shape}
 use Rattle.touch.specs.declared.Bounds.{Bounds}
 use Rattle.touch.specs.Touches.{Touches}
-use Rattle.touch.specs.Corner.{three, bounds, Overlap, edgeValue, Apart, Separates, Corner}
+use Rattle.touch.specs.Corner.{three, bounds, Overlap, edgeValue, Apart, Separates}
 use Rattle.touch.specs.Corner.Apart.{above, below}
 use Rattle.touch.proofs.Theorem.{corner-is-touching}
 

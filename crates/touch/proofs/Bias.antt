@@ -1,7 +1,7 @@
 -- From the integers' plane to that of the naturals: a number k that makes every coordinate natural is added to all of them.
 use Prim.Native.Nat.{ℕ, _+_, _*_, _-_, _<_, _≤_, min, max}
 use mathlib.Core.Path.{_≡_, refl, sym, subst}
-use mathlib.Core.Bool.{Bool, true, false, not, cond}
+use mathlib.Core.Bool.{Bool, true, false, cond}
 use mathlib.Core.List.{List, [], _∷_}
 use mathlib.Core.Logic.{_↔_, inl, inr, ⊎-elim}
 use native.Mathlib.Omega.{arith}
@@ -13,9 +13,8 @@ use Rattle.numbers.proofs.Diff.{diff-same, diff-pos, diff-any, diff-add, diff-s
 use Rattle.numbers.proofs.Is.{is-self, le-left}
 use Rattle.screen.specs.declared.Rectangle.{Rectangle}
 use Rattle.shape.specs.declared.Vertex.{Vertex}
-use Rattle.touch.specs.declared.Three.{Three}
 use Rattle.touch.specs.Touches.{MeanIn}
-use Rattle.touch.specs.Corner.{lesser, greater, bounds, Overlap, edgeValue, Apart, Separates}
+use Rattle.touch.specs.Corner.{lesser, greater, bounds, Overlap, edgeValue, Separates}
 use Rattle.touch.specs.Corner.Apart.{above, below}
 use Rattle.touch.proofs.Natural.{Spot, Frame, Hits, BoxMeets, turn, Parts}
 

@@ -9,11 +9,10 @@ use Rattle.screen.specs.declared.Screen.{Screen}
 use Rattle.screen.specs.Screen.{Allowed, columns, rows}
 use Rattle.screen.specs.Rectangle.{rectangleAt}
 use Rattle.screen.proofs.Laws.{near-rises, far-rises, near-far}
-use Rattle.shape.specs.declared.Vertex.{Vertex}
 use Rattle.shape.specs.declared.Shape.{Shape}
 use Rattle.touch.specs.Touches.{Touches}
 use Rattle.touch.specs.Corner.{three}
-use Rattle.touch.proofs.Natural.{Spot, Frame, Hits}
+use Rattle.touch.proofs.Natural.{Frame, Hits}
 use Rattle.touch.proofs.Bias.{Framed, depth, depthOf, spot, frame, spotted, framed, le-lifted, to-hits, from-hits}
 use Rattle.touch.proofs.Between.{widen, between-x, between-y}
 use Rattle.touch.proofs.Weights.{touches-as-triangle}

@@ -10,7 +10,7 @@ use lib.IntN.{pos}
 use mir.Facts.{and-yes}
 use Rattle.numbers.specs.Says.{Says}
 use Rattle.screen.specs.declared.Screen.{Screen}
-use Rattle.screen.specs.Screen.{Allowed, across, columns, rows, tiles, columnOf, rowOf}
+use Rattle.screen.specs.Screen.{Allowed, across, tiles}
 use Rattle.screen.specs.Rectangle.{near, far, rectangle}
 use Rattle.screen.proofs.Laws.{rectangle-proper, column<, row<}
 use Rattle.shape.specs.declared.Shape.{Shape}

@@ -1,8 +1,9 @@
 -- How large the numbers of an edge are, from the range of the vertices and of the sides.
 use Prim.Native.Nat.{ℕ, _<_, _^_}
 use mathlib.Core.Path.{refl, sym, subst}
+use mathlib.Core.Bool.{Bool, true, false, cond}
 use lib.IntN.{ℤ, pos, _-ℤ_, _*ℤ_}
-use lib.Signed.{_≤ℤ_, mag}
+use lib.Signed.{_≤ℤ_, leZ, mag}
 use mir.Syntax.{Width, w64}
 use mir.Val.{hbits}
 use Rattle.numbers.specs.Is.{Is, kept}
@@ -17,8 +18,8 @@ use Rattle.shape.specs.Shape.{InUnits, Placed, InRange}
 use Rattle.touch.specs.declared.Three.{Three}
 use Rattle.touch.specs.declared.Edge.{Edge}
 use Rattle.touch.specs.declared.Edges.{Edges}
-use Rattle.touch.specs.Corner.{three}
-use Rattle.touch.specs.Edges.{AllPlaced, edgeOf, edgesOf, starts, Outline, rowEdge, rowEdges, Within, EdgeRange, EdgesRange, RowEdgeRange, RowEdgesRange}
+use Rattle.touch.specs.Corner.{three, greater, bounds}
+use Rattle.touch.specs.Edges.{AllPlaced, edgeOf, edgesOf, Outline, rowEdge, rowEdges, Within, EdgeRange, EdgesRange, RowEdgeRange, RowEdgesRange}
 
 pub is-within : {z : ℤ} {size : ℕ} → Within size z → Is z z size
 is-within h = record { same = refl; size = h .abs }
@@ -40,21 +41,38 @@ three-placed (Triangle a b c) h = record { a = h .0; b = h .1 .0; c = h .1 .1 .0
 pub unit : {z : ℤ} → InUnits z → Is z z 262144
 unit p = is-range 262143 262143 (p .low) (p .high)
 
-between : {z : ℤ} → pos 0 ≤ℤ z → z ≤ℤ pos 524288 → Within 524288 z
-between l h = within (is-range 0 524288 (≤ℤ-trans (record { le = tt }) l) h)
+pub side-within : {z : ℤ} → pos 0 ≤ℤ z → z ≤ℤ pos 524288 → Within 524288 z
+side-within l h = within (is-range 0 524288 (≤ℤ-trans (record { le = tt }) l) h)
 
 module _ {q : Rectangle} (ok : Proper q) where
   pub left-within : Within 524288 (q .left)
-  left-within = between (ok .left≥) (≤ℤ-trans (ok .wide) (ok .right≤))
+  left-within = side-within (ok .left≥) (≤ℤ-trans (ok .wide) (ok .right≤))
 
   pub right-within : Within 524288 (q .right)
-  right-within = between (≤ℤ-trans (ok .left≥) (ok .wide)) (ok .right≤)
+  right-within = side-within (≤ℤ-trans (ok .left≥) (ok .wide)) (ok .right≤)
 
   pub top-within : Within 524288 (q .top)
-  top-within = between (ok .top≥) (≤ℤ-trans (ok .high) (ok .bottom≤))
+  top-within = side-within (ok .top≥) (≤ℤ-trans (ok .high) (ok .bottom≤))
 
   pub bottom-within : Within 524288 (q .bottom)
-  bottom-within = between (≤ℤ-trans (ok .top≥) (ok .high)) (ok .bottom≤)
+  bottom-within = side-within (≤ℤ-trans (ok .top≥) (ok .high)) (ok .bottom≤)
+
+-- the greatest coordinates are coordinates of vertices
+picked : (t : Bool) {x y : ℤ} → InUnits x → InUnits y → InUnits (cond t x y)
+picked true p q = p
+picked false p q = q
+
+greatest : {x y : ℤ} → InUnits x → InUnits y → InUnits (greater x y)
+greatest {x} {y} p q = picked (leZ x y) q p
+
+module _ {t : Three} (p : AllPlaced t) where
+  pub right-in-units : InUnits (bounds t .right)
+  unfolding bounds
+  right-in-units = greatest (p .a .x) (greatest (p .b .x) (p .c .x))
+
+  pub bottom-in-units : InUnits (bounds t .bottom)
+  unfolding bounds
+  bottom-in-units = greatest (p .a .y) (greatest (p .b .y) (p .c .y))
 
 -- ---- the way from a vertex to a side, as the machine computes it, and its product with a difference
 

@@ -1,5 +1,5 @@
 -- What passes the corner test hits: each corner has a mean in its quadrant, and of the four means one between them lies in the frame.
-use Prim.Native.Nat.{ℕ, _+_, _*_, _<_, _≤_, min, max}
+use Prim.Native.Nat.{ℕ, _+_, _*_, _≤_, min, max}
 use mathlib.Core.Logic.{inl, inr, ⊎-elim}
 use native.Mathlib.Omega.{arith}
 use native.Mathlib.Decide.{decLe}

@@ -1,7 +1,7 @@
 -- Weights for one list of vertices are weights for another with the same sums. So a line touches as the triangle with its second vertex twice does,
 -- a point as that with its vertex thrice, and the order of the vertices and the winding do not matter.
 use Prim.Native.Nat.{ℕ, _+_, _*_}
-use mathlib.Core.Path.{_≡_, refl, ap, subst}
+use mathlib.Core.Path.{_≡_, refl, ap}
 use mathlib.Core.List.{List, [], _∷_}
 use mathlib.Core.Logic.{_↔_}
 use native.Mathlib.Omega.{arith}

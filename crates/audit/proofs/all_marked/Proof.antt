@@ -22,7 +22,7 @@ shared-slice-read-if1 : tie.Need-shared-slice-read-if1 Inv-loop μ-loop
 shared-slice-read-if1 c = search needs
 
 returns : tie.Need-returns Inv-loop μ-loop
-returns c = says-no (λ h. c .if1 .taken (h (c .before .before .before .loop .b) (omega arith)))
+returns c = says-no (λ h. omega (arith, h (c .before .before .before .loop .b) (omega arith)))
 
 add-b : tie.Need-add-b Inv-loop μ-loop
 add-b c = search needs

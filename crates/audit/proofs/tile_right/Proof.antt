@@ -1,5 +1,5 @@
 -- `audit::tile_right` says whether a tile has its chain: the walk does, and its end is compared with the word that names the last block.
-use mathlib.Core.Path.{refl, sym, _∙_}
+use mathlib.Core.Path.{refl, _∙_}
 use native.Mathlib.Omega.{arith}
 use borrow.Author.Tests.{eqb-true, eqb-false}
 use denote.Ref.{now}
@@ -86,8 +86,8 @@ returns-2 c =
     let x = rw (c .before .before .last .given .1) at (told (c .before .before .before .before .before .before)) in
     let named = tile-word edition (now (a .pool)) 2 (c .before .before .before .before .before .before .before .before .before .before .before .wide .ensures) in
     record {
-      yes = λ e. (record { run = x .run; last = sym named ∙ sym (eqb-true _ _ e) ∙ x .last-is }, x .marked);
-      no = λ e h apart. eqb-false _ _ e (x .last-is ∙ sym (h .last) ∙ sym named);
+      yes = λ e. (record { run = x .run; last = omega (arith, eqb-true, named, x .last-is) }, x .marked);
+      no = λ e h apart. omega (arith, eqb-false, named, h .last, x .last-is);
     }
 
 pub tile-right-spec : {M : Type 1} → statement M

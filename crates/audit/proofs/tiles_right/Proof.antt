@@ -1,5 +1,5 @@
 -- `audit::tiles_right` says whether all tiles have their chains: those passed so far have, and their blocks are marked.
-use Prim.Native.Nat.{ℕ, _+_, _-_, _<_, _≤_}
+use Prim.Native.Nat.{_+_, _-_, _≤_}
 use mathlib.Core.Path.{_≡_, refl, ap}
 use native.Mathlib.Omega.{arith}
 use borrow.Author.Needs.{needs}

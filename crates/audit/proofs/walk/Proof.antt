@@ -1,6 +1,6 @@
 -- `audit::walk` finds a chain right or broken: what is left of the walk is right exactly where the whole is (`Going`).
 use Prim.Native.Nat.{ℕ}
-use mathlib.Core.Path.{_≡_, ap}
+use mathlib.Core.Path.{ap}
 use native.Mathlib.Omega.{arith}
 use borrow.Author.Needs.{needs}
 use borrow.Author.Tests.{not-true, not-false}

@@ -30,7 +30,7 @@ returns c =
     append-in edition _ _ _ _ _ (λ z. c .before .before .before .before .if1 .taken (ap (λ (n : ℕ). n % edition .ids) (c .before .before .before .before .before .wide .ensures ∙ c .before .before .before .before .before .before .tile-word .ensures) ∙ z)) (c .before .before .put-in-last .ensures)
 
 slice-read-head : tie.Need-slice-read-head
-slice-read-head c = omega (arith, header-in (c .before .before .before .before .before .before .pre .0))
+slice-read-head c = omega (arith, header-in (c .before .before .before .before .before .before .pre .0 .sound))
 
 tile-word-requires-2 : tie.Need-tile-word-requires-2
 tile-word-requires-2 c κs = tile-in (c .before .before .before .before .before .before .before .pre .0) (omega arith)

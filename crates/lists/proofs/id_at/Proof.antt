@@ -3,7 +3,7 @@ use mathlib.Core.Path.{_≡_, _∙_}
 use Prim.Native.Nat.{ℕ, _<_}
 use native.Mathlib.Omega.{arith}
 use borrow.Author.Needs.{needs}
-use lib.ListN.{length, getD}
+use lib.ListN.{getD}
 use Rattle.pool.specs.Words.{edition, tileWord}
 use Rattle.pool.specs.Sound.{blocksOf}
 use Rattle.pool.specs.Lists.{listOf}
@@ -15,7 +15,7 @@ use Rattle.lists.proofs.id_at.Tie as tie
 
 abbrev Inv-loop : tie.InvT-loop
 Inv-loop pool tiles place link₀ left₀ link left =
-    (t : ℕ) → Among pool tiles t → link₀ ≡ tileWord edition pool t 1 → place < length (listOf edition tiles pool t)
+    (t : ℕ) → Among pool tiles t → link₀ ≡ tileWord edition pool t 1 → place < tileWord edition pool t 0
     → Reading tiles (blocksOf pool) pool link left (getD (listOf edition tiles pool t) place 0)
 
 abbrev μ-loop : tie.MeasureT-loop

@@ -8,7 +8,6 @@ use lib.ListN.{length, length-set}
 use Rattle.numbers.specs.Ceil.{ceil}
 use Rattle.pool.specs.Words.{edition, tileWord}
 use Rattle.pool.specs.Sound.{blocksOf}
-use Rattle.pool.specs.Lists.{listOf}
 use Rattle.lists.specs.Releasing.{giveChain}
 use Rattle.lists.proofs.Reaches.{tile-in}
 use Rattle.lists.proofs.ReleaseLoop.{Giving, giving-start, giving-block, giving-step, giving-end, release-stores}
@@ -20,10 +19,10 @@ abbrev Inv-loop : tie.InvT-loop
 Inv-loop pool₀ tiles tile link₀ given₀ pool link given =
     (length pool ≡ length pool₀)
     × Giving tiles (blocksOf pool₀) pool link given (giveChain edition tiles (tileWord edition pool₀ (tile .0) 0) (tileWord edition pool₀ (tile .0) 1) pool₀)
-    (ceil (length (listOf edition tiles pool₀ (tile .0))) (edition .ids))
+    (ceil (tileWord edition pool₀ (tile .0) 0) (edition .ids))
 
 abbrev μ-loop : tie.MeasureT-loop
-μ-loop pool₀ tiles tile link₀ given₀ pool link given = ceil (length (listOf edition tiles pool₀ (tile .0))) (edition .ids) - given
+μ-loop pool₀ tiles tile link₀ given₀ pool link given = ceil (tileWord edition pool₀ (tile .0) 0) (edition .ids) - given
 
 tile-word-requires : tie.Need-tile-word-requires Inv-loop μ-loop
 tile-word-requires c κs = tile-in (c .before .before .pre) (omega arith)

@@ -4,19 +4,21 @@ use Rattle.pool.specs.Words.{start, room}
 use Rattle.pool.proofs.room_of.Statement.{statement}
 use Rattle.pool.proofs.room_of.Tie as tie
 
-start-of-requires : tie.Need-start-of-requires
-start-of-requires c κs = search needs
-
 mul-result : tie.Need-mul-result
 mul-result c = search needs
 
 add-result : tie.Need-add-result
-unfolding start
 add-result c = search needs
+
+mul-result-2 : tie.Need-mul-result-2
+mul-result-2 c = search needs
+
+add-result-2 : tie.Need-add-result-2
+add-result-2 c = search needs
 
 returns : tie.Need-returns
 unfolding start room
 returns c = search needs
 
 pub room-of-spec : {M : Type 1} → statement M
-room-of-spec = tie.close (tie.spec start-of-requires mul-result add-result returns)
+room-of-spec = tie.close (tie.spec mul-result add-result mul-result-2 add-result-2 returns)

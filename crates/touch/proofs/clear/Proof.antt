@@ -1,5 +1,5 @@
 -- `touch::clear` meets its contract: the first edge that separates decides, and where none does, all three are clear.
-use mathlib.Core.Path.{_≡_, subst}
+use mathlib.Core.Path.{subst}
 use mathlib.Core.Bool.{Bool}
 use lib.IntN.{ℤ}
 use mir.Syntax.{w64}

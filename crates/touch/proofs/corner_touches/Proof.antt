@@ -1,11 +1,11 @@
 -- `touch::corner_touches` meets its contract. Where the box is met, the edges in the row of the rectangle decide; where not, nothing touches.
-use mathlib.Core.Path.{_≡_, ap, sym, subst, _∙_}
+use mathlib.Core.Path.{ap, sym, subst, _∙_}
 use Rattle.numbers.specs.Says.{Says}
 use Rattle.numbers.proofs.Is.{kept-is}
 use Rattle.numbers.proofs.Says.{says-no, says-iff}
 use mir.Syntax.{w64}
 use Rattle.touch.specs.declared.Bounds.{Bounds}
-use Rattle.touch.specs.Corner.{three, bounds, Overlap}
+use Rattle.touch.specs.Corner.{bounds, Overlap}
 use Rattle.touch.specs.Edges.{AllPlaced, edgesOf, rowEdges, Clear, Within, EdgesRange, RowEdgesRange}
 use Rattle.touch.proofs.Sizes.{three-placed, edges-range, row-edges-range, left-within, right-within, top-within, bottom-within}
 use Rattle.touch.proofs.Theorem.{touching-meets-box, clear-is-touching}

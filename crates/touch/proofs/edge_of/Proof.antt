@@ -1,5 +1,5 @@
 -- `touch::edge_of` meets its contract. Each value of the code is an integer of the vertices, of a size that is computed, so each operation fits.
-use lib.IntN.{ℤ, _-ℤ_, _*ℤ_}
+use lib.IntN.{ℤ, _-ℤ_}
 use mir.Syntax.{w32, w64}
 use Rattle.numbers.specs.Is.{Is, kept}
 use Rattle.numbers.proofs.Is.{is-sub, is-mul, is-fits, is-kept}

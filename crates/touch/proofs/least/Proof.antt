@@ -1,5 +1,5 @@
 -- `touch::least` meets its contract: each branch returns what the test picks.
-use mathlib.Core.Path.{_≡_, sym, ap, _∙_}
+use mathlib.Core.Path.{sym, ap, _∙_}
 use mathlib.Core.Bool.{Bool, cond}
 use mir.Syntax.{w32}
 use Rattle.numbers.proofs.Is.{is-arg}

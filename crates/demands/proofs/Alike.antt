@@ -48,7 +48,7 @@ module _ {n : ℕ} {p w : List ℕ} {s : State} (W : Wider edition n p w s) wher
   tiles-same = wider-tiles edition-fair W
 
   pub lists-same : (t : ℕ) → t < tilesOf p → listIn w t ≡ listIn p t
-  lists-same t ht = ap (λ (T : ℕ). listOf edition T w t) tiles-same ∙ wider-lists edition-fair W t ht
+  lists-same t ht = wider-lists edition-fair W t ht
 
   -- where the first pool is left as it was, so is the second
   unchanged : {q : List ℕ} (Says : List ℕ → Type 0) → q ≡ p → Says w → Follows n Says q
@@ -63,7 +63,7 @@ module _ {n : ℕ} {p w : List ℕ} {s : State} (W : Wider edition n p w s) wher
       let same : need edition w ts ≡ need edition p ts = wider-need edition-fair W ts D in
       let more = wider-free edition-fair W in
       let e′ : a ≡ record { number = 0; tiles = length ts; blocks = need edition w ts } = rw same e in
-      (appendAll edition (tilesOf w) w ts id, appendAllState (edition .ids) s ts id, PlaceSays.done ts T′ (omega arith) e′ refl, rw (f, tiles-same) (wider-append-all edition-fair W ts id D i l))
+      (appendAll edition (tilesOf w) w ts id, appendAllState (edition .ids) s ts id, PlaceSays.done ts T′ (omega arith) e′ refl, rw f (wider-append-all edition-fair W ts id D i l))
 
   bin-follows : {shape : Shape} {id : ℕ} {a : Binned} {q : List ℕ} → BinSays p shape id a q → a .number ≢ 8 → Follows n (λ v. BinSays w shape id a v) q
   bin-follows (BinSays.damaged d e f) ne = absurd (d sound)
@@ -89,7 +89,7 @@ module _ {n : ℕ} {p w : List ℕ} {s : State} (W : Wider edition n p w s) wher
   release-follows (ReleaseSays.no-tile S h e f) = unchanged _ f (ReleaseSays.no-tile sound′ (omega (arith, tiles-same)) e refl)
   release-follows {t} {a} {q} (ReleaseSays.done S h e f) =
       let e′ : a ≡ record { number = 0; blocks = ceil (length (listIn w t)) (edition .ids) } = rw (lists-same t h) e in
-      (release edition (tilesOf w) w t, releaseState s t, ReleaseSays.done sound′ (omega (arith, tiles-same)) e′ refl, rw (f, tiles-same) (wider-release edition-fair W t h))
+      (release edition (tilesOf w) w t, releaseState s t, ReleaseSays.done sound′ (omega (arith, tiles-same)) e′ refl, rw f (wider-release edition-fair W t h))
 
   step-follows : (e : Entry) (q : List ℕ) → Step p e q → numberOf e ≢ 8 → Follows n (λ v. Step w e v) q
   step-follows (binned shape id a) q k ne = bin-follows k ne

@@ -14,7 +14,7 @@ use Rattle.pool.specs.Opening.{opening, openingState}
 use Rattle.pool.proofs.Words.{edition-fair}
 use Rattle.pool.proofs.Opening.{header-fits, open-sound, opening-opened, opening-screen, opening-tiles, opening-blocks, opening-shows, opening-lists-empty}
 use Rattle.lists.specs.Wider.{widen, Wider}
-use Rattle.lists.proofs.Widening.{widen-opening, wider-free, wider-poison}
+use Rattle.lists.proofs.Widening.{widen-opening, wider-tiles, wider-free, wider-poison}
 use Rattle.pool.specs.Opening.{OpenSays}
 use Rattle.calls.specs.Tables.{listIn}
 use Rattle.demands.specs.History.{lessRoom}
@@ -105,5 +105,5 @@ demand-3 d N n p₁ p₂ O h₁ q₁ R₁ h₂ q₂ same R₂ =
       history = lists-are-listed d p₁ (P .sound) (P .screen) (P .none) h₁ q₁ R₁;
       free = wider-free edition-fair W;
       poisoned = λ b lo hi k hk.
-          ap (λ (T : ℕ). blockWord edition T q₂ b k) (sym tiles-are) ∙ wider-poison edition-fair W b (omega arith) (omega arith) k hk;
+          ap (λ (T : ℕ). blockWord edition T q₂ b k) (sym (wider-tiles edition-fair W ∙ tiles-are)) ∙ wider-poison edition-fair W b (omega arith) (omega arith) k hk;
     }

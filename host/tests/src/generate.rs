@@ -65,9 +65,9 @@ fn along(from: Vertex, step: [i64; 2], times: i64) -> Vertex {
     }
 }
 
-/// Three vertices, two of them on a line that meets a tile in a corner or a side only, the third on that line or on the
-/// side away from the tile.
-fn against(random: &Random, rectangle: Rectangle) -> [Vertex; 3] {
+/// A shape of so many vertices that meets a tile in a corner or in part of a side: a point there, a line, or a triangle
+/// of which an edge is that line and the third vertex lies on it or on the side away from the tile.
+fn against(random: &Random, rectangle: Rectangle, vertices: usize) -> Vec<Vertex> {
     let reach = random.pick(&[1, 3, 40, 5000, 262_143]);
     let sides = [[rectangle.left, rectangle.right], [rectangle.top, rectangle.bottom]];
     // where the line meets the tile, and its normal there, which points away from the tile
@@ -91,8 +91,12 @@ fn against(random: &Random, rectangle: Rectangle) -> [Vertex; 3] {
         outwards(0) + outwards(1) >= 0
     };
     let far_away = (0..8).map(|_| [far(random), far(random)]).find(beyond).unwrap_or(corner);
-    let third = random.pick(&[corner, along(along(corner, away, times()), on_line, times()), far_away, far_away]);
-    [one, other, third]
+    let third = random.pick(&[one, along(along(corner, away, times()), on_line, times()), far_away, far_away]);
+    match vertices {
+        1 => vec![corner],
+        2 => vec![one, other],
+        _ => vec![one, other, third],
+    }
 }
 
 /// A shape in range that lies at a tile so that its answer often turns on one unit.
@@ -100,20 +104,21 @@ pub fn shape(random: &Random, screen: Screen, tile: u32) -> Vec<Vertex> {
     let rectangle = screen.rectangle(tile);
     let beside = || [near(random, rectangle.left, rectangle.right), near(random, rectangle.top, rectangle.bottom)];
     let anywhere = || [far(random), far(random)];
+    let vertices = random.pick(&[1, 2, 2, 3, 3, 3]);
     let mut shape = match random.below(16) {
-        0 => [anywhere(), anywhere(), anywhere()],
-        1 => [beside(), anywhere(), beside()],
-        2 | 3 => [beside(), beside(), beside()],
-        _ => against(random, rectangle),
+        0 => (0..vertices).map(|_| anywhere()).collect(),
+        1 => (0..vertices).map(|_| random.pick(&[beside(), beside(), anywhere()])).collect(),
+        2 | 3 => (0..vertices).map(|_| beside()).collect(),
+        _ => against(random, rectangle, vertices),
     };
     // one unit off
     if random.once_in(3) {
-        let vertex = random.below(3) as usize;
+        let vertex = random.below(vertices as u32) as usize;
         let axis = random.below(2) as usize;
         shape[vertex][axis] = (shape[vertex][axis] + random.pick(&[-1, 1])).clamp(*UNITS.start(), *UNITS.end());
     }
     random.shuffle(&mut shape);
-    shape[..random.pick(&[1, 2, 2, 3, 3, 3, 3])].to_vec()
+    shape
 }
 
 /// The shape with one coordinate out of range.

@@ -1,8 +1,15 @@
 //! Runs cases, and finds the smallest one that fails.
 
 use std::fmt::Debug;
+use std::time::{Duration, Instant};
+
+use model::screen::Screen;
+use model::Vertex;
 
 use crate::random::Random;
+
+/// How long the smallest case is looked for.
+const PATIENCE: Duration = Duration::from_secs(60);
 
 /// A case of a test: how to make one, which are a step smaller, and what running it shows.
 pub trait Case: Clone + Debug {
@@ -19,9 +26,13 @@ pub trait Case: Clone + Debug {
     fn run(&self) -> Result<Self::Seen, String>;
 }
 
-/// Goes from a failing case to smaller ones that fail, as long as there are any.
+/// Goes from a failing case to smaller ones that fail, as long as there are any and patience lasts.
 fn smallest<C: Case>(mut case: C, mut wrong: String) -> (C, String) {
-    let failing = |case: &C| case.smaller().into_iter().find_map(|smaller| Some((smaller.run().err()?, smaller)));
+    let began = Instant::now();
+    let failing = |case: &C| {
+        let smaller = case.smaller().into_iter().take_while(|_| began.elapsed() < PATIENCE);
+        smaller.map(|case| (case.run(), case)).find_map(|(ran, case)| Some((ran.err()?, case)))
+    };
     while let Some((also_wrong, smaller)) = failing(&case) {
         (case, wrong) = (smaller, also_wrong);
     }
@@ -77,8 +88,16 @@ pub fn fewer<T: Clone>(items: &[T]) -> Vec<Vec<T>> {
     all
 }
 
+/// The screens with half the width or half the height.
+pub fn smaller_screens(screen: Screen) -> Vec<Screen> {
+    let Screen { width, height, .. } = screen;
+    let mut all = vec![Screen { width: width.div_ceil(2), ..screen }, Screen { height: height.div_ceil(2), ..screen }];
+    all.retain(|&smaller| smaller != screen);
+    all
+}
+
 /// The smaller shapes: fewer vertices, and coordinates nearer to 0.
-pub fn smaller_shapes(shape: &[[i32; 2]]) -> Vec<Vec<[i32; 2]>> {
+pub fn smaller_shapes(shape: &[Vertex]) -> Vec<Vec<Vertex>> {
     let mut all: Vec<_> = fewer(shape).into_iter().filter(|shape| !shape.is_empty()).collect();
     all.extend(each_smaller(shape, |&[x, y]| {
         let along_x = nearer_zero(x).into_iter().map(|x| [x, y]);

@@ -5,7 +5,7 @@ use model::pool::{block_at, room, State, IDS_OF_BLOCK, POISON};
 use model::screen::Screen;
 use tests::call::{Blocks, Call, Slot};
 use tests::generate;
-use tests::hold::{each_smaller, fewer, hold, Case};
+use tests::hold::{each_smaller, fewer, hold, smaller_screens, Case};
 use tests::random::Random;
 
 /// Calls on two pools for one screen, the second with at least as many blocks as the first.
@@ -15,7 +15,21 @@ struct Sequence {
     blocks: [u32; 2],
     /// words past the room that each pool needs
     tails: [usize; 2],
-    calls: Vec<Call>,
+    calls: Vec<Repeated>,
+}
+
+/// A call, made so many times.
+#[derive(Clone, Debug)]
+struct Repeated(u32, Call);
+
+impl Repeated {
+    fn smaller(&self) -> Vec<Repeated> {
+        let Repeated(times, call) = self;
+        let fewer = [1, times / 2, times - 1].into_iter().filter(|fewer| (1..*times).contains(fewer));
+        let mut all: Vec<_> = fewer.map(|fewer| Repeated(fewer, call.clone())).collect();
+        all.extend(call.smaller().into_iter().map(|call| Repeated(*times, call)));
+        all
+    }
 }
 
 impl Case for Sequence {
@@ -29,25 +43,25 @@ impl Case for Sequence {
         let first = random.below(if large { 1025 } else { 24 });
         let extra = 1 + random.below(if large { 1024 } else { 12 });
         let early = random.pick(&[0, 0, 0, 0, 0, 0, 0, 1, 3]);
-        let mut calls: Vec<Call> = (0..early).map(|_| Call::make(random, screen)).collect();
-        calls.push(Call::Open { screen, blocks: Blocks::Own });
+        let mut calls: Vec<_> = (0..early).map(|_| Repeated(1, Call::make(random, screen))).collect();
+        calls.push(Repeated(1, Call::Open { screen, blocks: Blocks::Own }));
         for _ in 0..2 + random.below(14) {
-            let call = Call::make(random, screen);
             // the same call again and again makes long chains
-            let times = 1 + random.pick(&[0, 0, 0, 0, 0, 0, 0, 1, 2, 30, 33]);
-            calls.extend(std::iter::repeat_n(call, times));
+            let times = random.pick(&[1, 1, 1, 1, 1, 1, 1, 2, 3, 31, 34]);
+            calls.push(Repeated(times, Call::make(random, screen)));
         }
         let tails = [random.below(4) as usize, random.below(4) as usize];
         Sequence { screen, blocks: [first, first + extra], tails, calls }
     }
 
     fn smaller(&self) -> Vec<Sequence> {
-        let calls = fewer(&self.calls).into_iter().chain(each_smaller(&self.calls, Call::smaller));
-        let mut all: Vec<_> = calls.map(|calls| Sequence { calls, ..self.clone() }).collect();
+        let with_calls = |calls| Sequence { calls, ..self.clone() };
         let blocks = [[self.blocks[0] / 2, self.blocks[1]], [self.blocks[0], self.blocks[0]]];
-        all.extend(
-            blocks.into_iter().filter(|&fewer| fewer != self.blocks).map(|blocks| Sequence { blocks, ..self.clone() }),
-        );
+        let with_blocks = |blocks| Sequence { blocks, ..self.clone() };
+        let mut all: Vec<_> = fewer(&self.calls).into_iter().map(with_calls).collect();
+        all.extend(smaller_screens(self.screen).into_iter().map(|screen| self.on(screen)));
+        all.extend(blocks.into_iter().filter(|&fewer| fewer != self.blocks).map(with_blocks));
+        all.extend(each_smaller(&self.calls, Repeated::smaller).into_iter().map(with_calls));
         all
     }
 
@@ -55,7 +69,8 @@ impl Case for Sequence {
     fn run(&self) -> Result<Vec<u32>, String> {
         let (mut first, mut second) = (self.slot(0), self.slot(1));
         let mut numbers = Vec::new();
-        for call in &self.calls {
+        let calls = self.calls.iter().flat_map(|Repeated(times, call)| std::iter::repeat_n(call, *times as usize));
+        for call in calls {
             let answer = first.call(call).map_err(|wrong| format!("first pool: {wrong}"))?;
             numbers.push(answer[0]);
             if answer[0] != number::NO_ROOM {
@@ -76,6 +91,18 @@ impl Case for Sequence {
 }
 
 impl Sequence {
+    /// The same on another screen.
+    fn on(&self, screen: Screen) -> Sequence {
+        let mut other = Sequence { screen, ..self.clone() };
+        for Repeated(_, call) in &mut other.calls {
+            match call {
+                Call::Open { screen: opened, .. } if *opened == self.screen => *opened = screen,
+                _ => {}
+            }
+        }
+        other
+    }
+
     /// A pool's slot before it is opened: words that say nothing.
     fn slot(&self, pool: usize) -> Slot {
         let words = room(self.screen, self.blocks[pool]) + self.tails[pool];

@@ -1,12 +1,12 @@
 //! Box and corner against the model, on shapes most of which lie where the answer turns.
 
 use flourscoop::raw::{self, Answer};
-use model::screen::Screen;
+use model::screen::{Rectangle, Screen};
 use model::touch::{box_meets, question, touches};
 use model::Vertex;
 use tests::call::{screen_of, shape_of};
 use tests::generate;
-use tests::hold::{hold, smaller_shapes, Case};
+use tests::hold::{hold, smaller_screens, smaller_shapes, Case};
 use tests::random::Random;
 
 #[derive(Clone, Debug)]
@@ -40,8 +40,13 @@ impl Case for Question {
     }
 
     fn smaller(&self) -> Vec<Question> {
+        if !self.screen.allowed() {
+            return Vec::new();
+        }
         let tiles = [0, self.tile / 2, self.tile.saturating_sub(1)].into_iter().filter(|&tile| tile < self.tile);
         let mut all: Vec<_> = tiles.map(|tile| Question { tile, ..self.clone() }).collect();
+        all.extend((self.tile > 0).then(|| self.at_first_tile()));
+        all.extend(smaller_screens(self.screen).into_iter().map(|screen| Question { screen, ..self.clone() }));
         all.extend(smaller_shapes(&self.shape).into_iter().map(|shape| Question { shape, ..self.clone() }));
         all
     }
@@ -66,6 +71,13 @@ impl Case for Question {
 }
 
 impl Question {
+    /// The shape as it lies at its tile, at tile 0.
+    fn at_first_tile(&self) -> Question {
+        let Rectangle { left, top, .. } = self.screen.rectangle(self.tile);
+        let moved = |&[x, y]: &Vertex| [x.wrapping_sub(left as i32), y.wrapping_sub(top as i32)];
+        Question { tile: 0, shape: self.shape.iter().map(moved).collect(), ..self.clone() }
+    }
+
     /// Whether a step of one unit by one of the vertices changes the answer.
     fn turns_on_a_unit(&self) -> bool {
         let rectangle = self.screen.rectangle(self.tile);

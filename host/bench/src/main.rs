@@ -1,1 +1,169 @@
-fn main() {}
+//! Nanoseconds per call of the archive beside a plain Rust binner, in one run. Screen 800 by 480, s = 4, 2,048 blocks.
+
+mod plain;
+
+use std::hint::black_box;
+use std::time::Instant;
+
+use flourscoop::{raw, room, Pixel, Screen, Shape, Vertex};
+use plain::Plain;
+
+const SCREEN: Screen = Screen { width: 800, height: 480, s: 4 };
+const BLOCKS: u32 = 2048;
+const TILES: u32 = 50 * 30;
+const ROUNDS: usize = 9;
+
+/// The middle of the times of some rounds, in nanoseconds per call. Each round has its own preparation, which is not
+/// timed.
+fn time<P>(calls: usize, prepare: impl Fn() -> P, run: impl Fn(&mut P)) -> f64 {
+    let mut rounds: Vec<f64> = (0..ROUNDS)
+        .map(|_| {
+            let mut prepared = prepare();
+            let began = Instant::now();
+            run(&mut prepared);
+            began.elapsed().as_nanos() as f64 / calls as f64
+        })
+        .collect();
+    rounds.sort_by(f64::total_cmp);
+    rounds[ROUNDS / 2]
+}
+
+fn triangle([x1, y1]: [i32; 2], [x2, y2]: [i32; 2], [x3, y3]: [i32; 2]) -> Shape<Vertex> {
+    Shape::Triangle(Vertex { x: x1, y: y1 }, Vertex { x: x2, y: y2 }, Vertex { x: x3, y: y3 })
+}
+
+/// Triangles that touch one tile each, over the whole screen.
+fn small(count: u32) -> Vec<Shape<Vertex>> {
+    let at = |k: u32| {
+        let tile = k * 7 % TILES;
+        let (left, top) = ((tile % 50 * 256) as i32, (tile / 50 * 256) as i32);
+        triangle([left + 20, top + 30], [left + 200, top + 60], [left + 90, top + 210])
+    };
+    (0..count).map(at).collect()
+}
+
+/// Triangles that reach from side to side of the screen, in both windings.
+fn wide(count: u32) -> Vec<Shape<Vertex>> {
+    let at = |k: u32| {
+        let k = k as i32 * 11;
+        let (a, b, c) = ([k, 0], [12_800, k], [12_000 - k, 7_680]);
+        if k % 2 == 0 {
+            triangle(a, b, c)
+        } else {
+            triangle(a, c, b)
+        }
+    };
+    (0..count).map(at).collect()
+}
+
+fn opened() -> Vec<u32> {
+    let mut words = vec![0; room(SCREEN, BLOCKS)];
+    raw::open(&mut words, SCREEN, BLOCKS).done().unwrap();
+    words
+}
+
+fn bin_all(words: &mut [u32], shapes: &[Shape<Vertex>]) {
+    for (id, &shape) in shapes.iter().enumerate() {
+        black_box(raw::bin(words, id as u32, shape)).done().unwrap();
+    }
+}
+
+fn bin_all_plain(plain: &mut Plain, shapes: &[Shape<Vertex>]) {
+    for (id, &shape) in shapes.iter().enumerate() {
+        black_box(plain.bin(id as u32, shape));
+    }
+}
+
+/// A pool and a plain binner with the shapes binned.
+fn filled(shapes: &[Shape<Vertex>]) -> (Vec<u32>, Plain) {
+    let (mut words, mut plain) = (opened(), Plain::open(SCREEN));
+    bin_all(&mut words, shapes);
+    bin_all_plain(&mut plain, shapes);
+    (words, plain)
+}
+
+/// The archive lists as many ids in each tile as the plain binner, and the same.
+fn same_lists(words: &[u32], plain: &Plain) {
+    for (tile, list) in (0..).zip(&plain.lists) {
+        assert_eq!(words[8 + 3 * tile] as usize, list.len());
+        assert_eq!(list.first().copied(), raw::read(words, tile as u32, 0).done().ok().map(|[id]| id));
+    }
+}
+
+/// A row of the table: the call, its time, and beside it that of the plain binner and the ratio.
+fn row(call: &str, archive: f64, plain: Option<f64>) {
+    match plain {
+        Some(plain) => println!("| {call} | {archive:.0} | {plain:.1} | {:.1} |", archive / plain),
+        None => println!("| {call} | {archive:.0} | | |"),
+    }
+}
+
+fn calls_on(kind: &str, shapes: &[Shape<Vertex>]) {
+    let (words, plain) = filled(shapes);
+    same_lists(&words, &plain);
+    let audit_opened =
+        time(100, opened, |words| (0..100).for_each(|_| assert_eq!(black_box(raw::audit(words)).number, 0)));
+    let audit =
+        time(100, || words.clone(), |words| (0..100).for_each(|_| assert_eq!(black_box(raw::audit(words)).number, 0)));
+    let bin = time(shapes.len(), opened, |words| bin_all(words, shapes));
+    let bin_plain = time(shapes.len(), || Plain::open(SCREEN), |plain| bin_all_plain(plain, shapes));
+    let places: Vec<(u32, u32)> = (0..TILES).map(|tile| (tile, plain.lists[tile as usize].len() as u32 / 2)).collect();
+    let read = time(
+        places.len(),
+        || words.clone(),
+        |words| places.iter().for_each(|&(tile, place)| drop(black_box(raw::read(words, tile, place)))),
+    );
+    let read_plain = time(
+        places.len(),
+        || (),
+        |()| places.iter().for_each(|&(tile, place)| drop(black_box(plain.read(black_box(tile), place)))),
+    );
+    let release = time(
+        TILES as usize,
+        || words.clone(),
+        |words| (0..TILES).for_each(|tile| drop(black_box(raw::release(words, tile)))),
+    );
+    let release_plain =
+        time(TILES as usize, || filled(shapes).1, |plain| (0..TILES).for_each(|tile| plain.release(black_box(tile))));
+    row(&format!("bin, {kind}"), bin, Some(bin_plain));
+    row(&format!("bin, {kind}, less an audit"), bin - (audit_opened + audit) / 2.0, Some(bin_plain));
+    row(&format!("audit after {kind}"), audit, None);
+    row(&format!("read after {kind}"), read, Some(read_plain));
+    row(&format!("release after {kind}"), release, Some(release_plain));
+}
+
+/// Snap is bin_pixels less bin: of a triangle off the screen, on a pool of one tile and no block, where the rest of bin is
+/// least.
+fn snap() {
+    const CALLS: usize = 100_000;
+    let screen = Screen { width: 8, height: 8, s: 3 };
+    let prepare = || {
+        let mut words = vec![0; room(screen, 0)];
+        raw::open(&mut words, screen, 0).done().unwrap();
+        words
+    };
+    let pixels: [Pixel; 3] = [[-900.3, -800.2], [-700.1, -650.7], [-640.9, -777.77]].map(|[x, y]| Pixel { x, y });
+    let units = plain::snap(pixels).unwrap();
+    let shape = |[a, b, c]: [Vertex; 3]| Shape::Triangle(a, b, c);
+    let bin = time(CALLS, prepare, |words| {
+        (0..CALLS).for_each(|_| drop(black_box(raw::bin(words, 1, shape(black_box(units))))))
+    });
+    let [a, b, c] = pixels;
+    let bin_pixels = time(CALLS, prepare, |words| {
+        (0..CALLS).for_each(|_| drop(black_box(raw::bin_pixels(words, 1, black_box(Shape::Triangle(a, b, c))))))
+    });
+    let plain = time(CALLS, || (), |()| (0..CALLS).for_each(|_| drop(black_box(plain::snap(black_box(pixels))))));
+    row("bin of a triangle off the screen, one tile, no block", bin, None);
+    row("snap of a triangle's six coordinates", bin_pixels - bin, Some(plain));
+}
+
+fn main() {
+    println!("| call | archive, ns | plain Rust, ns | ratio |");
+    println!("|---|---|---|---|");
+    let open = time(1, || vec![0; room(SCREEN, BLOCKS)], |words| drop(black_box(raw::open(words, SCREEN, BLOCKS))));
+    let open_plain = time(1, || (), |()| drop(black_box(Plain::open(SCREEN))));
+    row("open", open, Some(open_plain));
+    calls_on("1,500 small shapes", &small(1500));
+    calls_on("31 screen-wide shapes", &wide(31));
+    snap();
+}

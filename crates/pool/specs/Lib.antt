@@ -3,3 +3,4 @@ pub mod State
 pub mod Sound
 pub mod Lists
 pub mod Opening
+pub mod Written

@@ -1,9 +1,10 @@
--- The words that an accepted opening leaves.
+-- The words that an accepted opening leaves, and what a call of open answers.
+use mathlib.Core.Path.{_≡_}
 use mathlib.Core.List.{List, [], _∷_, _++_}
-use Prim.Native.Nat.{ℕ, zero, suc, _*_}
-use lib.ListN.{drop, replicate}
+use Prim.Native.Nat.{ℕ, zero, suc, _*_, _≤_, _<_}
+use lib.ListN.{length, drop, replicate}
 use Rattle.screen.specs.declared.Screen.{Screen}
-use Rattle.screen.specs.Screen.{tiles}
+use Rattle.screen.specs.Screen.{Allowed, tiles}
 use Rattle.pool.specs.Words.{Layout, start, room}
 use Rattle.pool.specs.State.{empty, State, linkTo}
 
@@ -17,7 +18,7 @@ unfoldable pub headerFor : Layout → Screen → (N : ℕ) → List ℕ
 headerFor L d N = d .width ∷ d .height ∷ d .s ∷ N ∷ N ∷ linkTo (rising 0 N) ∷ L .header ∷ start L (tiles d) ∷ []
 
 -- the words of block b, which n blocks follow: poison, and a link to the next
-abbrev pub freeBlock : Layout → (b n : ℕ) → List ℕ
+unfoldable pub freeBlock : Layout → (b n : ℕ) → List ℕ
 freeBlock L b n = replicate (L .ids) (L .poison) ++ (linkTo (rising (suc b) n) ∷ [])
 
 -- the words of n blocks from b on
@@ -33,3 +34,11 @@ opening L d N p =
 -- what it says: every tile empty, every block free
 abbrev pub openingState : (T N : ℕ) → State
 openingState T N = record { free = rising 0 N; tiles = replicate T empty }
+
+-- What open answers for a screen d and N blocks over the words p: a number a, and the words q that it leaves. Each row has its cause, with no earlier
+-- one applying, and then the whole outcome.
+pub data OpenSays (L : Layout) (p : List ℕ) (d : Screen) (N a : ℕ) (q : List ℕ) : Type 0 where
+  bad-screen : (Allowed d → ⊥) → a ≡ 1 → q ≡ p → OpenSays L p d N a q
+  too-many : Allowed d → 2048 < N → a ≡ 2 → q ≡ p → OpenSays L p d N a q
+  too-short : Allowed d → N ≤ 2048 → length p < room L (tiles d) N → a ≡ 3 → q ≡ p → OpenSays L p d N a q
+  done : Allowed d → N ≤ 2048 → room L (tiles d) N ≤ length p → a ≡ 0 → q ≡ opening L d N p → OpenSays L p d N a q

@@ -1,6 +1,6 @@
 -- The pool as a list of words, and its three kinds of word: of the header, of a tile, of a block.
 use mathlib.Core.List.{List}
-use Prim.Native.Nat.{ℕ, suc, _+_, _*_}
+use Prim.Native.Nat.{ℕ, suc, _+_, _*_, _<_}
 use lib.ListN.{getD, set}
 
 -- What one edition of the pool differs from another in.

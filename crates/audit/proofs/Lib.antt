@@ -1,0 +1,6 @@
+pub mod Follow
+pub mod Held
+pub mod Reading
+pub mod Passing
+pub mod Whole
+pub mod Answers

@@ -1,0 +1,3 @@
+pub mod Chain
+pub mod Walk
+pub mod Answer

@@ -1,0 +1,239 @@
+// The public calls. None asks anything of its caller: any words in the pool, any shape and any number are answered, and a refusal gives its
+// number, zero in every other field, and changes no word.
+use audit::Audited;
+use audit::Header;
+use numbers::narrow;
+use numbers::wide;
+use screen::Rectangle;
+use screen::Screen;
+use screen::Tile;
+use shape::Shape;
+use snap::PixelShape;
+use snap::SnappedShape;
+ghost use mathlib.Core.Path.{_≡_};
+ghost use Rattle.pool.specs.Words.{edition};
+ghost use Rattle.pool.specs.Sound.{Sound};
+ghost use Rattle.pool.specs.Opening.{OpenSays};
+ghost use Rattle.shape.specs.Shape.{InRange};
+ghost use Rattle.audit.specs.Answer.{HeaderOf};
+ghost use Rattle.calls.specs.Tables.{AuditSays, refusedBin, PlaceSays, BinSays, BinPixelsSays, ReadSays, ReleaseSays};
+ghost use Prim.Native.Nat.{_<_};
+ghost use Rattle.calls.specs.Questions.{QuestionSays, notAsked, BoxSays, CornerSays};
+
+// What a bin answers: its number, the tiles listed and the blocks taken.
+pub struct Binned {
+    pub number: u32,
+    pub tiles: u32,
+    pub blocks: u32,
+}
+
+// What a release answers: its number, and the blocks given back.
+pub struct Released {
+    pub number: u32,
+    pub blocks: u32,
+}
+
+// What a read answers: its number, and the id.
+pub struct Found {
+    pub number: u32,
+    pub id: u32,
+}
+
+// What a question about touching answers: its number, and whether the shape touches the tile.
+pub struct Answered {
+    pub number: u32,
+    pub touches: bool,
+}
+
+// Opens a pool for a screen with so many blocks: 0, or 1 for the screen, 2 for the blocks, 3 for a slice that is too short.
+pub fn open(pool: &mut [u32], screen: Screen, blocks: u32) -> u32
+    ensures { λ r. ⌜ OpenSays edition (now (pool .entry)) screen blocks r (now (pool .exit)) ⌝ }
+{
+    pool::open(pool, screen, blocks)
+}
+
+// 0 where the pool is sound, and else 4.
+pub fn audit(pool: &[u32]) -> u32
+    ensures { λ r. ⌜ AuditSays (now (pool .entry)) r ⌝ }
+{
+    let audited = audit::audit(pool);
+    let Audited::Sound(_) = audited else {
+        return 4;
+    };
+    0
+}
+
+// A refused bin.
+fn refused_bin(number: u32) -> Binned
+    ensures { λ r. ⌜ r ≡ refusedBin number ⌝ }
+{
+    Binned {
+        number,
+        tiles: 0,
+        blocks: 0,
+    }
+}
+
+// Appends the id to the list of each tile that the shape touches, in rising number, where there are as many free blocks as that needs: 0, or 8.
+// Nothing is written before the blocks are counted.
+fn place(pool: &mut [u32], header: Header, shape: Shape, id: u32) -> Binned
+    requires { ⌜ (Sound edition (now pool)) × (HeaderOf edition (now pool) header) × (InRange shape) × (id < edition .limit) ⌝ }
+    ensures { λ r. ⌜ PlaceSays (now (pool .entry)) shape id r (now (pool .exit)) ⌝ }
+{
+    let mut touched = [0u32; 4096];
+    let count = walk::touched_tiles(header.screen, shape, &mut touched);
+    let tiles = wide(header.tiles);
+    let blocks = lists::need(pool, tiles, &touched, wide(count));
+    if wide(lists::free(pool)) < blocks {
+        return refused_bin(8);
+    }
+    lists::append_all(pool, tiles, &touched, wide(count), id);
+    Binned {
+        number: 0,
+        tiles: count,
+        blocks: narrow(blocks),
+    }
+}
+
+// Bins a whole-number shape: 0, the tiles listed and the blocks taken; or 4, 5, 7, 8 in that order.
+pub fn bin(pool: &mut [u32], shape: Shape, id: u32) -> Binned
+    ensures { λ r. ⌜ BinSays (now (pool .entry)) shape id r (now (pool .exit)) ⌝ }
+{
+    let audited = audit::audit(pool);
+    let Audited::Sound(header) = audited else {
+        return refused_bin(4);
+    };
+    if pool::ID_LIMIT <= id {
+        return refused_bin(5);
+    }
+    if !shape::in_range(shape) {
+        return refused_bin(7);
+    }
+    place(pool, header, shape, id)
+}
+
+// Bins a shape in pixels: 0, the tiles listed and the blocks taken; or 4, 5, then 6 or 7 as its first offence decides, then 8.
+pub fn bin_pixels(pool: &mut [u32], shape: PixelShape, id: u32) -> Binned
+    ensures { λ r. ⌜ BinPixelsSays (now (pool .entry)) shape id r (now (pool .exit)) ⌝ }
+{
+    let audited = audit::audit(pool);
+    let Audited::Sound(header) = audited else {
+        return refused_bin(4);
+    };
+    if pool::ID_LIMIT <= id {
+        return refused_bin(5);
+    }
+    let snapped = snap::snap_shape(shape);
+    let SnappedShape::Whole(whole) = snapped else {
+        return refused_bin(snap::shape_number(snapped));
+    };
+    place(pool, header, whole, id)
+}
+
+// Reads the id at a place of a tile's list, places counted from 0: 0 and the id, or 4, 9, 10 in that order.
+pub fn read(pool: &[u32], tile: Tile, place: u32) -> Found
+    ensures { λ r. ⌜ ReadSays (now (pool .entry)) (tile .0) place r ⌝ }
+{
+    let audited = audit::audit(pool);
+    let Audited::Sound(header) = audited else {
+        return Found { number: 4, id: 0 };
+    };
+    if header.tiles <= tile.0 {
+        return Found { number: 9, id: 0 };
+    }
+    let tiles = wide(header.tiles);
+    if lists::entries(pool, tiles, tile) <= place {
+        return Found { number: 10, id: 0 };
+    }
+    let id = lists::id_at(pool, tiles, tile, place);
+    Found { number: 0, id }
+}
+
+// Empties a tile's list and gives its blocks back: 0 and how many these were, or 4, 9 in that order.
+pub fn release(pool: &mut [u32], tile: Tile) -> Released
+    ensures { λ r. ⌜ ReleaseSays (now (pool .entry)) (tile .0) r (now (pool .exit)) ⌝ }
+{
+    let audited = audit::audit(pool);
+    let Audited::Sound(header) = audited else {
+        return Released {
+            number: 4,
+            blocks: 0,
+        };
+    };
+    if header.tiles <= tile.0 {
+        return Released {
+            number: 9,
+            blocks: 0,
+        };
+    }
+    let blocks = lists::release(pool, wide(header.tiles), tile);
+    Released { number: 0, blocks }
+}
+
+// The rectangle that a question is about, or the number that it is refused with.
+enum Question {
+    Asked(Rectangle),
+    Refused(u32),
+}
+
+// The rectangle of a tile of the screen, or the refusal: 1 for the screen, 9 for the tile, 7 for the shape, in that order.
+fn ask(screen: Screen, tile: Tile, shape: Shape) -> Question
+    ensures { λ r. ⌜ QuestionSays screen (tile .0) shape r ⌝ }
+{
+    if !screen::allowed(screen) {
+        return Question::Refused(1);
+    }
+    if screen::tiles_of(screen) <= tile.0 {
+        return Question::Refused(9);
+    }
+    if !shape::in_range(shape) {
+        return Question::Refused(7);
+    }
+    let column = screen::column_of(screen, tile);
+    let row = screen::row_of(screen, tile);
+    Question::Asked(screen::rectangle_at(screen, column, row))
+}
+
+// The answer to a question that is not put.
+fn not_asked(asked: Question) -> Answered
+    ensures { λ r. ⌜ r ≡ notAsked asked ⌝ }
+{
+    match asked {
+        Question::Asked(_) => Answered {
+            number: 0,
+            touches: false,
+        },
+        Question::Refused(number) => Answered {
+            number,
+            touches: false,
+        },
+    }
+}
+
+// Whether the tile meets the bounding box of the shape: 0 and the answer, or 1, 9, 7 in that order.
+pub fn box_touches(screen: Screen, tile: Tile, shape: Shape) -> Answered
+    ensures { λ r. ⌜ BoxSays screen (tile .0) shape r ⌝ }
+{
+    let asked = ask(screen, tile, shape);
+    let Question::Asked(rectangle) = asked else {
+        return not_asked(asked);
+    };
+    Answered {
+        number: 0,
+        touches: touch::box_touches(shape, rectangle),
+    }
+}
+
+// Whether the shape touches the tile: 0 and the answer, or 1, 9, 7 in that order.
+pub fn corner_touches(screen: Screen, tile: Tile, shape: Shape) -> Answered
+    ensures { λ r. ⌜ CornerSays screen (tile .0) shape r ⌝ }
+{
+    let asked = ask(screen, tile, shape);
+    let Question::Asked(rectangle) = asked else {
+        return not_asked(asked);
+    };
+    Answered {
+        number: 0,
+        touches: touch::corner_touches(shape, rectangle),
+    }
+}

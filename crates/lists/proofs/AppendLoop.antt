@@ -1,0 +1,100 @@
+-- What the loops over a list of tiles keep: the tiles that are left, none of them twice, and the blocks that they need.
+use mathlib.Core.Path.{_≡_, refl, sym, ap, ap₂, _∙_, subst}
+use mathlib.Core.Logic.{_≢_}
+use mathlib.Core.List.{List, [], _∷_}
+use Prim.Native.Nat.{ℕ, suc, _+_, _%_, _≤_, _<_}
+use native.Mathlib.Numerals.{add-one}
+use native.Mathlib.Omega.{arith}
+use borrow.Author.Tests.{eq-eqb, ne-eqb}
+use lib.ListN.{length, getD, take, drop}
+use lib.Seq.{drop-cons, getD-take, length-take-le, drop-length}
+use Rattle.pool.specs.Words.{Layout, edition, headerWord, tileWord}
+use Rattle.pool.specs.State.{one, times}
+use Rattle.pool.specs.Sound.{Sound, tilesOf}
+use Rattle.pool.proofs.Words.{edition-fair}
+use Rattle.pool.proofs.Times.{one-same, times-head, times-tail, times-differ}
+use Rattle.pool.proofs.Header.{keeps-tiles}
+use Rattle.lists.specs.Appending.{multiple, need, append, appendAll, Distinct}
+use Rattle.lists.specs.Reach.{Among, AllAmong, Appendable}
+use Rattle.lists.proofs.Counts.{distinct-rest, distinct-first}
+use Rattle.lists.proofs.Several.{append-all-appends}
+
+-- the tiles that are left after i of n, and the next of them
+pub rest-next : (named : List ℕ) (n i : ℕ) → n ≤ length named → i < n → drop i (take n named) ≡ getD named i 0 ∷ drop (i + 1) (take n named)
+rest-next named n i le h =
+    let l : i < length (take n named) = rw (length-take-le n named le) h in
+    drop-cons (take n named) i 0 l ∙ rw (getD-take n named i 0 h, add-one i)
+
+pub rest-none : (named : List ℕ) (n : ℕ) → n ≤ length named → drop n (take n named) ≡ []
+rest-none named n le = subst (λ (k : ℕ). drop k (take n named) ≡ []) (length-take-le n named le) (drop-length (take n named))
+
+module _ (L : Layout) (p : List ℕ) (t : ℕ) (ts : List ℕ) where
+  pub need-more : tileWord L p t 0 % L .ids ≡ 0 → need L p (t ∷ ts) ≡ 1 + need L p ts
+  unfolding need
+  need-more z = omega (arith, ap one (eq-eqb (tileWord L p t 0 % L .ids) 0 z))
+
+  pub need-same : tileWord L p t 0 % L .ids ≢ 0 → need L p (t ∷ ts) ≡ need L p ts
+  unfolding need
+  need-same nz = omega (arith, ap one (ne-eqb (tileWord L p t 0 % L .ids) 0 nz))
+
+  pub need-parts : need L p (t ∷ ts) ≡ need L p (t ∷ []) + need L p ts
+  unfolding need
+  need-parts = omega arith
+
+pub need-kept : (L : Layout) (p q ts : List ℕ) → ((u : ℕ) → 0 < times u ts → tileWord L q u 0 ≡ tileWord L p u 0) → need L q ts ≡ need L p ts
+unfolding need
+need-kept L p q [] same = refl
+need-kept L p q (t ∷ ts) same =
+    ap₂ (λ (a b : ℕ). a + b) (ap (λ (n : ℕ). one (multiple (L .ids) n)) (same t (times-head t ts)))
+    (need-kept L p q ts (λ u h. same u (times-tail u t ts h)))
+
+-- the tiles `rest` are left, and to append to them ends in the words e
+pub record Appending (p : List ℕ) (T : ℕ) (rest : List ℕ) (id : ℕ) (e : List ℕ) : Type 0 where
+  pub ready : Appendable p T rest id
+  pub ends : appendAll edition T p rest id ≡ e
+
+pub among-first : {p : List ℕ} {T t : ℕ} {ts : List ℕ} → AllAmong p T (t ∷ ts) → Among p T t
+among-first {p} {T} {t} {ts} M = record { sound = M .sound; tiles = M .tiles; tile = M .distinct .below t (times-head t ts) }
+
+pub among-rest : {p : List ℕ} {T t : ℕ} {ts : List ℕ} → AllAmong p T (t ∷ ts) → AllAmong p T ts
+among-rest M = record { sound = M .sound; tiles = M .tiles; distinct = distinct-rest (M .distinct) }
+
+module _ {p : List ℕ} {T : ℕ} {t : ℕ} {rest : List ℕ} {id : ℕ} {e : List ℕ} (G : Appending p T (t ∷ rest) id e) where
+  pub appending-enough : need edition p (t ∷ []) ≤ headerWord p 4
+  appending-enough = omega (arith, need-parts edition p t rest, G .ready .enough)
+
+  pub appending-step : (q : List ℕ) → q ≡ append edition T p t id → Appending q T rest id e
+  unfolding appendAll
+  appending-step q f =
+      let among = G .ready .among in
+      let D = among .distinct in
+      let D₁ : Distinct (tilesOf p) (t ∷ []) = record {
+        once = λ u. omega (arith, D .once u);
+        below = λ u h. subst (λ (n : ℕ). u < n) (among .tiles) (D .below u (omega arith));
+      } in
+      let M = append-all-appends edition-fair (among .sound) (t ∷ []) id D₁ (G .ready .in-range) appending-enough in
+      let f′ : q ≡ appendAll edition (tilesOf p) p (t ∷ []) id = f ∙ ap (λ (n : ℕ). append edition n p t id) (among .tiles) in
+      let K = M .kept in
+      let same : (u : ℕ) → 0 < times u rest → tileWord edition q u 0 ≡ tileWord edition p u 0
+      = (λ u h.
+      let hu : u < tilesOf p = subst (λ (n : ℕ). u < n) (among .tiles) (D .below u (times-tail u t rest h)) in
+      let z : times u (t ∷ []) ≡ 0 = omega (arith, D .once u) in
+      ap (λ (w : List ℕ). tileWord edition w u 0) f′ ∙ K .tiles u hu z 0 (omega arith)) in
+      let n = need-kept edition p q rest same in
+      let h4 : headerWord q 4 + need edition p (t ∷ []) ≡ headerWord p 4 = ap (λ (w : List ℕ). headerWord w 4 + need edition p (t ∷ [])) f′ ∙ M .taken in
+      record {
+        ready = record {
+          among = record {
+            sound = subst (Sound edition) (sym f′) (M .sound);
+            tiles = among .tiles ∙ sym (ap tilesOf f′ ∙ keeps-tiles edition-fair (record { long = K .long; fixed = K .header }));
+            distinct = distinct-rest D;
+          };
+          in-range = G .ready .in-range;
+          enough = omega (arith, need-parts edition p t rest, G .ready .enough);
+        };
+        ends = ap (λ (w : List ℕ). appendAll edition T w rest id) f ∙ G .ends;
+      }
+
+pub appending-end : {p : List ℕ} {T id : ℕ} {e : List ℕ} → Appending p T [] id e → p ≡ e
+unfolding appendAll
+appending-end G = G .ends

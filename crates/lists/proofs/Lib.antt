@@ -1,0 +1,14 @@
+pub mod Within
+pub mod PutIn
+pub mod Taking
+pub mod Appends
+pub mod Counts
+pub mod Several
+pub mod Gives
+pub mod Releases
+pub mod Widening
+pub mod Reaches
+pub mod AppendLoop
+pub mod ReleaseLoop
+pub mod ReadLoop
+pub mod Named

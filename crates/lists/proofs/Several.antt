@@ -1,0 +1,98 @@
+-- An append to several tiles, none of them twice, keeps a pool sound and does what it promises.
+use mathlib.Core.Path.{_≡_, refl, sym, ap, _∙_, subst}
+use mathlib.Core.Logic.{_≢_}
+use mathlib.Core.List.{List, [], _∷_, _++_}
+use Prim.Native.Nat.{ℕ, suc, _+_, _≤_, _<_}
+use native.Mathlib.Omega.{arith}
+use lib.ListN.{length, getD}
+use Rattle.pool.specs.Words.{Layout, Fair, room, headerWord, tileWord}
+use Rattle.pool.specs.State.{Chained, State, tileOf, one, times}
+use Rattle.pool.specs.Sound.{Shows, Sound, tilesOf, blocksOf}
+use Rattle.pool.specs.Lists.{listOf}
+use Rattle.pool.proofs.Times.{times-head, times-differ}
+use Rattle.pool.proofs.Lists.{listOf-shows}
+use Rattle.pool.proofs.Header.{Keeps, keeps-tiles, keeps-blocks, keeps-opened}
+use Rattle.lists.specs.Appending.{multiple, need, append, appendAll, Distinct}
+use Rattle.lists.specs.Steps.{appendState, appendAllState, needState}
+use Rattle.lists.specs.Promises.{Kept, Appended}
+use Rattle.lists.proofs.Within.{Within, within-none, within-then}
+use Rattle.lists.proofs.Appends.{Step, append-step}
+use Rattle.lists.proofs.Counts.{append-other, append-free, append-frees-none, append-all-other, append-all-list, append-all-frees-none, distinct-first, distinct-rest, need-other, need-shows}
+
+-- the pool q, which keeps the fixed words of the sound pool p, is sound with the state that it shows
+abbrev pub sound-with : {L : Layout} {p q : List ℕ} → Fair L → Sound L p → Keeps L p q → (r : State) → Shows L (tilesOf p) (blocksOf p) q r → Sound L q
+sound-with {L} {p} {q} A S K r R = record {
+  opened = keeps-opened A K (S .opened);
+  state = r;
+  shows = subst (λ (T : ℕ). Shows L T (blocksOf q) q r) (sym (keeps-tiles A K))
+      (subst (λ (N : ℕ). Shows L (tilesOf p) N q r) (sym (keeps-blocks A K)) R);
+}
+
+module _ {L : Layout} {T N : ℕ} (A : Fair L) (id : ℕ) (hid : id < L .limit) where
+  -- what is shown, what stays, and what is left of the free chain
+  pub append-all-shows : {p : List ℕ} {s : State} (ts : List ℕ) → Shows L T N p s → room L T N ≤ length p → Distinct T ts
+      → needState (L .ids) s ts ≤ length (s .free)
+      → Shows L T N (appendAll L T p ts id) (appendAllState (L .ids) s ts id)
+      × Kept L T N p (appendAll L T p ts id) s (appendAllState (L .ids) s ts id) ts
+      × (length (appendAllState (L .ids) s ts id .free) + needState (L .ids) s ts ≡ length (s .free))
+  unfolding appendAll appendAllState needState
+  append-all-shows {p} {s} [] R long D room = (
+    R,
+    record {
+      long = refl;
+      header = λ k hk k4 k5. refl;
+      tiles = λ u hu z i hi. refl;
+      blocks = λ u hu z b hb k hk. refl;
+      free = λ b hb hb′ k hk. refl;
+      tail = λ i hi. refl;
+    },
+    omega arith,
+  )
+  append-all-shows {p} {s} (t ∷ ts) R long D room =
+      let ids = L .ids in
+      let r = appendState ids s t id in
+      let here : one (multiple ids (length (tileOf s t .list))) ≤ length (s .free) = omega arith in
+      let M = append-step A R long t id (D .below t (times-head t ts)) hid here in
+      let f = append-free ids s t id here in
+      let n = need-other ids s t id ts (distinct-first D) in
+      let I = append-all-shows ts (M .shows) (rw (M .within .keeps .long) long) (distinct-rest D) (omega arith) in
+      let K = I .1 in
+      let apart : (u : ℕ) → times u (t ∷ ts) ≡ 0 → u ≢ t = (λ u z e. times-differ t u (t ∷ ts) (times-head t ts) z (sym e)) in (
+        I .0,
+        record {
+          long = K .long ∙ M .within .keeps .long;
+          header = λ k hk k4 k5. K .header k hk k4 k5 ∙ M .within .keeps .fixed k hk k4 k5;
+          tiles = λ u hu z i hi. K .tiles u hu (omega arith) i hi ∙ M .others u hu (apart u z) i hi;
+          blocks = λ u hu z b hb k hk. K .blocks u hu (omega arith) b (rw (append-other ids s t id u (apart u z)) hb) k hk ∙ M .blocks u (apart u z) b hb k hk;
+          free = λ b hb hb′ k hk.
+              let hr : 0 < times b (r .free) = omega (arith, append-all-frees-none ids r ts id b) in
+              K .free b hr hb′ k hk ∙ M .free b hr k hk;
+          tail = λ i hi. K .tail i hi ∙ M .within .tail i hi;
+        },
+        omega (arith, I .2),
+      )
+
+pub append-all-appends : {L : Layout} {p : List ℕ} → Fair L → (S : Sound L p) (ts : List ℕ) (id : ℕ) → Distinct (tilesOf p) ts → id < L .limit
+    → need L p ts ≤ headerWord p 4 → Appended L p S (appendAll L (tilesOf p) p ts id) ts id
+append-all-appends {L} {p} A S ts id D hid enough =
+    let s = S .state in
+    let R = S .shows in
+    let r = appendAllState (L .ids) s ts id in
+    let n = need-shows R ts (D .below) in
+    let I = append-all-shows A id hid ts R (S .opened .long) D (omega (arith, R .count)) in
+    let K = I .1 in
+    let D′ : Distinct (length (s .tiles)) ts = rw (R .tiled) D in
+    let before : (u : ℕ) → u < tilesOf p → listOf L (tilesOf p) p u ≡ tileOf s u .list = listOf-shows A R in
+    let after : (u : ℕ) → u < tilesOf p → listOf L (tilesOf p) (appendAll L (tilesOf p) p ts id) u ≡ tileOf r u .list = listOf-shows A (I .0) in
+    record {
+      sound = sound-with A S (record { long = K .long; fixed = K .header }) r (I .0);
+      says = refl;
+      gains = λ t h. after t (D .below t h) ∙ append-all-list (L .ids) s ts id t D′ h ∙ sym (ap (λ (l : List ℕ). l ++ (id ∷ [])) (before t (D .below t h)));
+      others = λ u hu z. after u hu ∙ ap (λ (x : Chained). x .list) (append-all-other (L .ids) s ts id u z) ∙ sym (before u hu);
+      taken = omega (arith, I .2, I .0 .count, R .count);
+      kept = K;
+    }
+
+pub append-all-keeps-sound : {L : Layout} {p : List ℕ} → Fair L → Sound L p → (ts : List ℕ) (id : ℕ) → Distinct (tilesOf p) ts → id < L .limit
+    → need L p ts ≤ headerWord p 4 → Sound L (appendAll L (tilesOf p) p ts id)
+append-all-keeps-sound A S ts id D hid enough = append-all-appends A S ts id D hid enough .sound

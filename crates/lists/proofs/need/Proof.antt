@@ -1,0 +1,91 @@
+-- `need`: the blocks counted, and those that the tiles which are left need, are all.
+use mathlib.Core.Path.{_≡_, ap, sym, _∙_}
+use mathlib.Core.Logic.{⊎-elim}
+use Prim.Native.Nat.{ℕ, _+_, _%_, _≤_, _<_, _-_}
+use native.Mathlib.Omega.{arith}
+use borrow.Author.Needs.{needs}
+use lib.ListN.{getD, take, drop}
+use Rattle.pool.specs.Words.{edition}
+use Rattle.lists.specs.Appending.{need}
+use Rattle.lists.specs.Reach.{AllAmong}
+use Rattle.lists.proofs.Reaches.{tile-in}
+use Rattle.lists.proofs.AppendLoop.{rest-next, rest-none, need-more, need-same, among-first, among-rest}
+use Rattle.lists.proofs.need.Statement.{statement}
+use Rattle.lists.proofs.need.Tie as tie
+
+abbrev Inv-loop : tie.InvT-loop
+Inv-loop pool tiles named count blocks₀ i₀ blocks i =
+    (i ≤ count) × (blocks ≤ i) × AllAmong pool tiles (drop i (take count named))
+    × (blocks + need edition pool (drop i (take count named)) ≡ need edition pool (take count named))
+
+abbrev μ-loop : tie.MeasureT-loop
+μ-loop pool tiles named count blocks₀ i₀ blocks i = count - i
+
+loop-holds : tie.Need-loop-holds Inv-loop μ-loop
+loop-holds c = (search needs, search needs, c .before .before .pre .1, omega arith)
+
+mul-t9 : tie.Need-mul-t9 Inv-loop μ-loop
+mul-t9 c = search needs
+
+shared-slice-read-t11 : tie.Need-shared-slice-read-t11 Inv-loop μ-loop
+shared-slice-read-t11 c = search needs
+
+tile-word-requires : tie.Need-tile-word-requires Inv-loop μ-loop
+tile-word-requires c κs = let s = c .before .before .before .before .before in
+    let a = c .before .before in
+    let h : a .loop .i < s .args .count = omega (arith, c .before .loop-test .taken) in
+    let next = rest-next (s .args .named .now) (s .args .count) (a .loop .i) (s .pre .0) h in
+    let M = rw next at (a .loop .inv .2) in
+    tile-in (among-first M) (omega arith)
+
+wide-requires : tie.Need-wide-requires Inv-loop μ-loop
+wide-requires c κs = search needs
+
+add-blocks : tie.Need-add-blocks Inv-loop μ-loop
+add-blocks c = search needs
+
+add-i : tie.Need-add-i Inv-loop μ-loop
+add-i c = search needs
+
+loop-less : tie.Need-loop-less Inv-loop μ-loop
+loop-less c = search needs
+
+loop-again : tie.Need-loop-again Inv-loop μ-loop
+loop-again c = let s = c .before .before .before .before .before .before .before .before in
+    let a = c .before .before .before .before .before in
+    let h : a .loop .i < s .args .count = omega (arith, c .before .before .before .before .loop-test .taken) in
+    let next = rest-next (s .args .named .now) (s .args .count) (a .loop .i) (s .pre .0) h in
+    let M = rw next at (a .loop .inv .2) in
+    let n = rw next at (a .loop .inv .3) in
+    let p = s .args .pool .now in
+    let t = getD (s .args .named .now) (a .loop .i) 0 in
+    let rest = drop (a .loop .i + 1) (take (s .args .count) (s .args .named .now)) in
+    let e = c .before .wide .ensures ∙ c .before .before .tile-word .ensures in
+    ⊎-elim
+    (λ w. let m = need-more edition p t rest (ap (λ (k : ℕ). k % edition .ids) (sym e) ∙ w .0 .taken) in (omega arith, omega (arith, w .1), among-rest M, omega (arith, w .1)))
+    (λ w. let m = need-same edition p t rest (λ z. w .0 .left (ap (λ (k : ℕ). k % edition .ids) e ∙ z)) in (omega arith, omega (arith, w .1), among-rest M, omega (arith, w .1)))
+    (c .if1 .came)
+
+returns : tie.Need-returns Inv-loop μ-loop
+unfolding need
+returns c = let s = c .before .before .before .before in
+    let e : c .before .loop .i ≡ s .args .count = omega (arith, c .loop-test .left) in
+    let n = rw (e, rest-none (s .args .named .now) (s .args .count) (s .pre .0)) at (c .before .loop .inv .3) in
+    omega arith
+
+pub need-spec : {M : Type 1} → statement M
+need-spec =
+    tie.close
+    (tie.spec
+    Inv-loop
+    μ-loop
+    loop-holds
+    mul-t9
+    shared-slice-read-t11
+    tile-word-requires
+    wide-requires
+    add-blocks
+    add-i
+    loop-less
+    loop-again
+    returns)

@@ -1,0 +1,54 @@
+-- `poison`: after k turns the first k places of the block hold poison.
+use mathlib.Core.Path.{_≡_, refl, _∙_, ap}
+use Prim.Native.Nat.{_≤_, _-_}
+use native.Mathlib.Numerals.{add-one}
+use native.Mathlib.Omega.{arith}
+use borrow.Author.Needs.{needs}
+use lib.ListN.{length}
+use Rattle.pool.specs.Words.{edition}
+use Rattle.lists.specs.Releasing.{fill}
+use Rattle.lists.proofs.poison.Statement.{statement}
+use Rattle.lists.proofs.poison.Tie as tie
+
+abbrev Inv-loop : tie.InvT-loop
+Inv-loop pool₀ tiles block k₀ pool k = (k ≤ edition .ids) × (length pool ≡ length pool₀) × (pool ≡ fill edition tiles pool₀ (block .0) k)
+
+abbrev μ-loop : tie.MeasureT-loop
+μ-loop pool₀ tiles block k₀ pool k = edition .ids - k
+
+loop-holds : tie.Need-loop-holds Inv-loop μ-loop
+unfolding fill
+loop-holds c = (search needs, refl, refl)
+
+set-block-word-requires : tie.Need-set-block-word-requires Inv-loop μ-loop
+set-block-word-requires c κs = search needs
+
+add-k : tie.Need-add-k Inv-loop μ-loop
+add-k c = search needs
+
+loop-less : tie.Need-loop-less Inv-loop μ-loop
+loop-less c = search needs
+
+loop-again : tie.Need-loop-again Inv-loop μ-loop
+unfolding fill
+loop-again c = (search needs, search needs, rw (add-one) (cc))
+
+same-length : tie.Need-same-length Inv-loop μ-loop
+same-length c = search needs
+
+returns : tie.Need-returns Inv-loop μ-loop
+returns c = let e : c .before .loop .k ≡ edition .ids = omega arith in rw e at (c .before .loop .inv .2)
+
+pub poison-spec : {M : Type 1} → statement M
+poison-spec =
+    tie.close
+    (tie.spec
+    Inv-loop
+    μ-loop
+    loop-holds
+    set-block-word-requires
+    add-k
+    loop-less
+    loop-again
+    same-length
+    returns)

@@ -1,0 +1,89 @@
+-- `release`: to give back the chain that is left ends in the words that are promised, and what is left and what was given back are all of its blocks.
+-- Then the tile's three words are set.
+use mathlib.Core.Path.{_≡_, refl, _∙_}
+use Prim.Native.Nat.{_-_}
+use native.Mathlib.Omega.{arith}
+use borrow.Author.Needs.{needs}
+use lib.ListN.{length}
+use Rattle.numbers.specs.Ceil.{ceil}
+use Rattle.pool.specs.Words.{edition, tileWord}
+use Rattle.pool.specs.Sound.{blocksOf}
+use Rattle.lists.specs.Releasing.{giveChain}
+use Rattle.lists.proofs.Reaches.{tile-in}
+use Rattle.lists.proofs.ReleaseLoop.{Giving, giving-start, giving-block, giving-step, giving-end, release-stores}
+use Rattle.lists.proofs.release.Statement.{statement}
+use Rattle.lists.proofs.release.Tie as tie
+
+abbrev Inv-loop : tie.InvT-loop
+Inv-loop pool₀ tiles tile link₀ given₀ pool link given =
+    (length pool ≡ length pool₀)
+    × Giving tiles (blocksOf pool₀) pool link given (giveChain edition tiles (tileWord edition pool₀ (tile .0) 0) (tileWord edition pool₀ (tile .0) 1) pool₀)
+    (ceil (tileWord edition pool₀ (tile .0) 0) (edition .ids))
+
+abbrev μ-loop : tie.MeasureT-loop
+μ-loop pool₀ tiles tile link₀ given₀ pool link given = ceil (tileWord edition pool₀ (tile .0) 0) (edition .ids) - given
+
+tile-word-requires : tie.Need-tile-word-requires Inv-loop μ-loop
+tile-word-requires c κs = tile-in (c .before .before .pre) (omega arith)
+
+loop-holds : tie.Need-loop-holds Inv-loop μ-loop
+loop-holds c = (refl, rw (c .tile-word .ensures) (giving-start (c .before .before .before .pre)))
+
+sub-t10 : tie.Need-sub-t10 Inv-loop μ-loop
+sub-t10 c = let g = giving-block (c .before .loop .inv .1) (c .loop-test .taken) in
+    omega arith
+
+block-word-requires : tie.Need-block-word-requires Inv-loop μ-loop
+block-word-requires c κs = let g = giving-block (c .before .before .loop .inv .1) (c .before .loop-test .taken) in
+    g .1 .block
+
+give-block-requires : tie.Need-give-block-requires Inv-loop μ-loop
+give-block-requires c κs = let g = giving-block (c .before .before .before .before .loop .inv .1) (c .before .before .before .loop-test .taken) in
+    g .1
+
+add-given : tie.Need-add-given Inv-loop μ-loop
+add-given c = let g = giving-block (c .before .before .before .before .before .before .before .loop .inv .1) (c .before .before .before .before .before .before .loop-test .taken) in
+    omega (arith, c .before .before .before .before .before .before .before .loop .inv .1 .most)
+
+loop-less : tie.Need-loop-less Inv-loop μ-loop
+loop-less c = let g = giving-block (c .before .before .before .before .before .before .before .loop .inv .1) (c .before .before .before .before .before .before .loop-test .taken) in
+    omega arith
+
+loop-again : tie.Need-loop-again Inv-loop μ-loop
+loop-again c = (search needs, giving-step (c .before .before .before .before .before .before .before .loop .inv .1) (c .before .before .before .before .before .before .loop-test .taken) _ _ (c .before .before .give-block .ensures) (c .before .before .before .before .block-word .ensures))
+
+set-tile-word-requires : tie.Need-set-tile-word-requires Inv-loop μ-loop
+set-tile-word-requires c κs = omega (arith, tile-in (c .before .before .before .before .before .before .pre) {i = 0} (omega arith))
+
+set-tile-word-requires-2 : tie.Need-set-tile-word-requires-2 Inv-loop μ-loop
+set-tile-word-requires-2 c κs = omega (arith, tile-in (c .before .before .before .before .before .before .before .before .before .before .pre) {i = 1} (omega arith))
+
+set-tile-word-requires-3 : tie.Need-set-tile-word-requires-3 Inv-loop μ-loop
+set-tile-word-requires-3 c κs = omega (arith, tile-in (c .before .before .before .before .before .before .before .before .before .before .before .before .before .before .pre) {i = 2} (omega arith))
+
+same-length : tie.Need-same-length Inv-loop μ-loop
+same-length c = search needs
+
+returns : tie.Need-returns Inv-loop μ-loop
+returns c = let g = giving-end (c .before .before .before .before .before .before .before .before .before .before .before .before .before .loop .inv .1) (c .before .before .before .before .before .before .before .before .before .before .before .before .loop-test .left) in
+    (release-stores _ _ _ _ _ _ _ (g .0) (c .before .before .before .before .before .before .before .before .before .before .set-tile-word .ensures) (c .before .before .before .before .before .before .set-tile-word2 .ensures) (c .before .before .set-tile-word3 .ensures), g .1)
+
+pub release-spec : {M : Type 1} → statement M
+release-spec =
+    tie.close
+    (tie.spec
+    Inv-loop
+    μ-loop
+    tile-word-requires
+    loop-holds
+    sub-t10
+    block-word-requires
+    give-block-requires
+    add-given
+    loop-less
+    loop-again
+    set-tile-word-requires
+    set-tile-word-requires-2
+    set-tile-word-requires-3
+    same-length
+    returns)

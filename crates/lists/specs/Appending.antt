@@ -1,0 +1,59 @@
+-- What an append does to the words, and how many blocks it takes.
+use mathlib.Core.Bool.{Bool, true, false}
+use mathlib.Core.List.{List, [], _∷_}
+use Prim.Native.Nat.{ℕ, _+_, _-_, _%_, _≤_, _<_}
+use lib.Dec.{eqb}
+use Rattle.pool.specs.Words.{Layout, headerWord, tileWord, blockWord, headerSet, tileSet, blockSet}
+use Rattle.pool.specs.State.{one, times}
+
+abbrev pub pick : {A : Type 0} → Bool → A → A → A
+pick true a b = a
+pick false a b = b
+
+-- whether q ids fill their blocks, so that one id more takes a block: q is a multiple of `ids`, zero included
+abbrev pub multiple : (ids q : ℕ) → Bool
+multiple ids q = eqb (q % ids) 0
+
+-- how many of the tiles ts take a block with their next id
+unfoldable pub need : Layout → List ℕ → (ts : List ℕ) → ℕ
+need L p [] = 0
+need L p (t ∷ ts) = one (multiple (L .ids) (tileWord L p t 0)) + need L p ts
+
+-- the id goes into the last block of tile t, which has room
+unfoldable pub appendIn : Layout → (T : ℕ) → List ℕ → (t id : ℕ) → List ℕ
+appendIn L T p t id =
+    tileSet L (blockSet L T p (tileWord L p t 2 - 1) (tileWord L p t 0 % L .ids) id) t 0 (tileWord L p t 0 + 1)
+
+-- block b, the head of the free chain, leaves it
+unfoldable pub takeHead : Layout → (T : ℕ) → List ℕ → (b : ℕ) → List ℕ
+takeHead L T p b = blockSet L T (headerSet (headerSet p 5 (blockWord L T p b (L .ids))) 4 (headerWord p 4 - 1)) b (L .ids) 0
+
+-- it is taken for tile t, and the id stands in it
+unfoldable pub takeBlock : Layout → (T : ℕ) → List ℕ → (t b id : ℕ) → List ℕ
+takeBlock L T p t b id = tileSet L (tileSet L (blockSet L T (takeHead L T p b) b 0 id) t 2 (b + 1)) t 0 (tileWord L p t 0 + 1)
+
+-- it is the tile's first block
+unfoldable pub appendFirst : Layout → (T : ℕ) → List ℕ → (t id : ℕ) → List ℕ
+appendFirst L T p t id = tileSet L (takeBlock L T p t (headerWord p 5 - 1) id) t 1 (headerWord p 5)
+
+-- or the link of the tile's last block leads to it
+unfoldable pub appendNext : Layout → (T : ℕ) → List ℕ → (t id : ℕ) → List ℕ
+appendNext L T p t id =
+    blockSet L T (takeBlock L T p t (headerWord p 5 - 1) id) (tileWord L p t 2 - 1) (L .ids) (headerWord p 5)
+
+-- one id more at the end of tile t's list
+unfoldable pub append : Layout → (T : ℕ) → List ℕ → (t id : ℕ) → List ℕ
+append L T p t id =
+    pick (multiple (L .ids) (tileWord L p t 0))
+    (pick (eqb (tileWord L p t 0) 0) (appendFirst L T p t id) (appendNext L T p t id))
+    (appendIn L T p t id)
+
+-- the same for each of the tiles ts, in order
+unfoldable pub appendAll : Layout → (T : ℕ) → List ℕ → (ts : List ℕ) → (id : ℕ) → List ℕ
+appendAll L T p [] id = p
+appendAll L T p (t ∷ ts) id = appendAll L T (append L T p t id) ts id
+
+-- ts are tiles among T, none of them twice
+pub record Distinct (T : ℕ) (ts : List ℕ) : Type 0 where
+  pub once : (t : ℕ) → times t ts ≤ 1
+  pub below : (t : ℕ) → 0 < times t ts → t < T

@@ -1,0 +1,55 @@
+-- What the functions on words ask of numbers: that the words that they name lie in the pool, and that what they count fits a word.
+use Prim.Native.Nat.{ℕ, suc, _+_, _*_, _-_, _^_, _≤_, _<_}
+use mathlib.Core.Path.{_≡_}
+use mathlib.Core.List.{List}
+use lib.ListN.{length}
+use Rattle.pool.specs.Words.{edition, start, headerWord, tileWord}
+use Rattle.pool.specs.Sound.{Sound, tilesOf}
+use Rattle.lists.specs.Appending.{need, Distinct}
+
+-- word i of tile t lies in the pool
+abbrev pub TileIn : List ℕ → (t i : ℕ) → Type 0
+TileIn p t i = edition .header + edition .tile * t + i < length p
+
+-- word k of block b does
+abbrev pub BlockIn : (T : ℕ) → List ℕ → (b k : ℕ) → Type 0
+BlockIn T p b k = start edition T + suc (edition .ids) * b + k < length p
+
+-- a sound pool of T tiles, and one of its tiles
+pub record Among (p : List ℕ) (T t : ℕ) : Type 0 where
+  pub sound : Sound edition p
+  pub tiles : T ≡ tilesOf p
+  pub tile : t < T
+
+-- a sound pool of T tiles, and some of its tiles, none of them twice
+pub record AllAmong (p : List ℕ) (T : ℕ) (ts : List ℕ) : Type 0 where
+  pub sound : Sound edition p
+  pub tiles : T ≡ tilesOf p
+  pub distinct : Distinct T ts
+
+-- such tiles, to which an id can be appended
+pub record Appendable (p : List ℕ) (T : ℕ) (ts : List ℕ) (id : ℕ) : Type 0 where
+  pub among : AllAmong p T ts
+  pub in-range : id < edition .limit
+  pub enough : need edition p ts ≤ headerWord p 4
+
+-- a tile whose last block has room
+pub record Roomy (p : List ℕ) (T t : ℕ) : Type 0 where
+  pub tile : TileIn p t 2
+  pub last : 0 < tileWord edition p t 2
+  pub block : BlockIn T p (tileWord edition p t 2 - 1) (edition .ids)
+  pub fits : tileWord edition p t 0 + 1 < 2 ^ 32
+
+-- a block that is to be taken for a tile
+pub record Takeable (p : List ℕ) (T t b : ℕ) : Type 0 where
+  pub tile : TileIn p t 2
+  pub block : BlockIn T p b (edition .ids)
+  pub free : 0 < headerWord p 4
+  pub number : b + 1 < 2 ^ 32
+  pub fits : tileWord edition p t 0 + 1 < 2 ^ 32
+
+-- a block that is to be given back
+pub record Givable (p : List ℕ) (T b : ℕ) : Type 0 where
+  pub block : BlockIn T p b (edition .ids)
+  pub number : b + 1 < 2 ^ 32
+  pub fits : headerWord p 4 + 1 < 2 ^ 32

@@ -1,0 +1,49 @@
+-- What append and release mean for what a pool says.
+use mathlib.Core.List.{List, [], _∷_, _++_}
+use Prim.Native.Nat.{ℕ, _+_}
+use lib.ListN.{length, set}
+use Rattle.pool.specs.State.{Chained, empty, State, tileOf, one}
+use Rattle.lists.specs.Appending.{pick, multiple}
+
+abbrev pub headOr : (d : ℕ) → List ℕ → ℕ
+headOr d [] = d
+headOr d (x ∷ xs) = x
+
+abbrev pub tail : List ℕ → List ℕ
+tail [] = []
+tail (x ∷ xs) = xs
+
+-- one id more
+abbrev pub withId : Chained → (id : ℕ) → Chained
+withId x id = record { blocks = x .blocks; list = x .list ++ (id ∷ []) }
+
+-- one id more, and one block more
+abbrev pub withBlock : Chained → (b id : ℕ) → Chained
+withBlock x b id = record { blocks = x .blocks ++ (b ∷ []); list = x .list ++ (id ∷ []) }
+
+abbrev pub inLast : State → (t id : ℕ) → State
+inLast s t id = record { free = s .free; tiles = set (s .tiles) t (withId (tileOf s t) id) }
+
+abbrev pub inNew : State → (t id : ℕ) → State
+inNew s t id = record { free = tail (s .free); tiles = set (s .tiles) t (withBlock (tileOf s t) (headOr 0 (s .free)) id) }
+
+-- tile t's list gains the id; the head of the free chain joins the tile's chain exactly where its entries are a multiple of `ids`
+abbrev pub appendState : (ids : ℕ) → State → (t id : ℕ) → State
+appendState ids s t id = pick (multiple ids (length (tileOf s t .list))) (inNew s t id) (inLast s t id)
+
+unfoldable pub appendAllState : (ids : ℕ) → State → (ts : List ℕ) → (id : ℕ) → State
+appendAllState ids s [] id = s
+appendAllState ids s (t ∷ ts) id = appendAllState ids (appendState ids s t id) ts id
+
+unfoldable pub needState : (ids : ℕ) → State → (ts : List ℕ) → ℕ
+needState ids s [] = 0
+needState ids s (t ∷ ts) = one (multiple ids (length (tileOf s t .list))) + needState ids s ts
+
+-- the blocks bs, one after the other, each made the head of the free chain
+abbrev pub onto : (bs free : List ℕ) → List ℕ
+onto [] free = free
+onto (b ∷ bs) free = onto bs (b ∷ free)
+
+-- tile t is empty, and its blocks are free
+abbrev pub releaseState : State → (t : ℕ) → State
+releaseState s t = record { free = onto (tileOf s t .blocks) (s .free); tiles = set (s .tiles) t empty }

@@ -1,0 +1,12 @@
+pub mod Words
+pub mod Times
+pub mod Parts
+pub mod Chain
+pub mod Lists
+pub mod State
+pub mod Total
+pub mod Unique
+pub mod Header
+pub mod Rising
+pub mod Written
+pub mod Opening

@@ -1,0 +1,4 @@
+pub mod Nearest
+pub mod Scaled
+pub mod Unit
+pub mod Shapes

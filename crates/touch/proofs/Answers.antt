@@ -1,0 +1,127 @@
+-- Answers that are put together from others, and the corner test as a function to Bool, which answers as `Touches` does.
+use Prim.Native.Nat.{ℕ}
+use mathlib.Core.Path.{_≡_, refl, sym, subst, _∙_}
+use mathlib.Core.Bool.{Bool, true, false, not, _&&_, _||_}
+use mathlib.Core.Logic.{_⊎_, inl, inr, ⊎-elim}
+use lib.Dec.{T}
+use lib.IntN.{ℤ, pos}
+use lib.Signed.{_≤ℤ_, _<ℤ_, leZ, ltZ}
+use Rattle.numbers.specs.Is.{Is}
+use Rattle.numbers.specs.Says.{Says}
+use Rattle.numbers.proofs.Says.{says-yes, says-no, says-iff, says-and}
+use Rattle.screen.specs.declared.Rectangle.{Rectangle}
+use Rattle.screen.specs.Rectangle.{Proper}
+use Rattle.shape.specs.declared.Vertex.{Vertex}
+use Rattle.shape.specs.declared.Shape.{Shape}
+use Rattle.touch.specs.declared.Bounds.{Bounds}
+use Rattle.touch.specs.Touches.{Touches}
+use Rattle.touch.specs.Corner.{three, bounds, Overlap, edgeValue, Apart, Separates}
+use Rattle.touch.specs.Corner.Apart.{above, below}
+use Rattle.touch.proofs.Theorem.{corner-is-touching}
+
+pub says-same : {P : Type 0} {r s : Bool} → r ≡ s → Says s P → Says r P
+says-same {P} e h = subst (λ (t : Bool). Says t P) (sym e) h
+
+-- a test of two numbers as the machine reads them is the test of the two
+pub same-test : {v z u y : ℤ} {M N : ℕ} → Is v z M → Is u y N → {t : Bool} → leZ v u ≡ t → leZ z y ≡ t
+same-test p q e = (λ i. leZ (sym (p .same) i) (sym (q .same) i)) ∙ e
+
+-- one of two answers says whether either holds
+says-or : {P Q : Type 0} {r s : Bool} → Says r P → Says s Q → Says (r || s) (P ⊎ Q)
+says-or {r = true} {s} h k = says-yes (inl (h .yes refl))
+says-or {r = false} {s = true} h k = says-yes (inr (k .yes refl))
+says-or {r = false} {s = false} h k = says-no (⊎-elim (h .no refl) (k .no refl))
+
+says-not : {P : Type 0} {r : Bool} → Says r P → Says (not r) (P → ⊥)
+says-not {r = true} h = says-no (λ n. n (h .yes refl))
+says-not {r = false} h = says-yes (h .no refl)
+
+says-le : (x y : ℤ) → Says (leZ x y) (x ≤ℤ y)
+says-le x y = record { yes = λ e. record { le = subst T (sym e) tt }; no = λ e h. subst T e (h .le) }
+
+says-lt : (x y : ℤ) → Says (ltZ x y) (x <ℤ y)
+says-lt x y = record { yes = λ e. record { lt = subst T (sym e) tt }; no = λ e h. subst T e (h .lt) }
+
+-- ---- the box
+
+abbrev pub overlap : Bounds → Rectangle → Bool
+overlap p q = (leZ (q .left) (p .right) && leZ (p .left) (q .right)) && (leZ (q .top) (p .bottom) && leZ (p .top) (q .bottom))
+
+pub overlap-says : (p : Bounds) (q : Rectangle) → Says (overlap p q) (Overlap p q)
+overlap-says p q =
+    says-iff
+    (λ h. record { left = h .0 .0; right = h .0 .1; top = h .1 .0; bottom = h .1 .1 })
+    (λ h. ((h .left, h .right), (h .top, h .bottom)))
+    (says-and
+    (says-and (says-le (q .left) (p .right)) (says-le (p .left) (q .right)))
+    (says-and (says-le (q .top) (p .bottom)) (says-le (p .top) (q .bottom))))
+
+-- ---- one edge
+
+abbrev pub apart : (third p q r s : ℤ) → Bool
+apart third p q r s =
+    (leZ third (pos 0) && ((ltZ (pos 0) p && ltZ (pos 0) q) && (ltZ (pos 0) r && ltZ (pos 0) s)))
+    || (leZ (pos 0) third && ((ltZ p (pos 0) && ltZ q (pos 0)) && (ltZ r (pos 0) && ltZ s (pos 0))))
+
+module _ (third p q r s : ℤ) where
+  abbrev Above : Type 0
+  Above = (third ≤ℤ pos 0) × (((pos 0 <ℤ p) × (pos 0 <ℤ q)) × ((pos 0 <ℤ r) × (pos 0 <ℤ s)))
+
+  abbrev Below : Type 0
+  Below = (pos 0 ≤ℤ third) × (((p <ℤ pos 0) × (q <ℤ pos 0)) × ((r <ℤ pos 0) × (s <ℤ pos 0)))
+
+  made : Above ⊎ Below → Apart third p q r s
+  made =
+      ⊎-elim
+      (λ h. above (h .0) (h .1 .0 .0) (h .1 .0 .1) (h .1 .1 .0) (h .1 .1 .1))
+      (λ h. below (h .0) (h .1 .0 .0) (h .1 .0 .1) (h .1 .1 .0) (h .1 .1 .1))
+
+  parted : Apart third p q r s → Above ⊎ Below
+  parted (above z a b c d) = inl (z, ((a, b), (c, d)))
+  parted (below z a b c d) = inr (z, ((a, b), (c, d)))
+
+  pub apart-says : Says (apart third p q r s) (Apart third p q r s)
+  apart-says =
+      says-iff made parted
+      (says-or
+      (says-and (says-le third (pos 0))
+      (says-and (says-and (says-lt (pos 0) p) (says-lt (pos 0) q)) (says-and (says-lt (pos 0) r) (says-lt (pos 0) s))))
+      (says-and (says-le (pos 0) third)
+      (says-and (says-and (says-lt p (pos 0)) (says-lt q (pos 0))) (says-and (says-lt r (pos 0)) (says-lt s (pos 0))))))
+
+-- ---- the corner test
+
+abbrev separates : (a b c : Vertex) → Rectangle → Bool
+separates a b c q =
+    apart (edgeValue a b (c .x) (c .y))
+    (edgeValue a b (q .left) (q .top))
+    (edgeValue a b (q .right) (q .top))
+    (edgeValue a b (q .left) (q .bottom))
+    (edgeValue a b (q .right) (q .bottom))
+
+separates-says : (a b c : Vertex) (q : Rectangle) → Says (separates a b c q) (Separates a b c q)
+separates-says a b c q =
+    apart-says (edgeValue a b (c .x) (c .y))
+    (edgeValue a b (q .left) (q .top))
+    (edgeValue a b (q .right) (q .top))
+    (edgeValue a b (q .left) (q .bottom))
+    (edgeValue a b (q .right) (q .bottom))
+
+abbrev pub corner : Shape → Rectangle → Bool
+corner shape q =
+    overlap (bounds (three shape)) q
+    && (not (separates (three shape .a) (three shape .b) (three shape .c) q)
+    && (not (separates (three shape .b) (three shape .c) (three shape .a) q)
+    && not (separates (three shape .c) (three shape .a) (three shape .b) q)))
+
+pub corner-says-touching : (shape : Shape) (q : Rectangle) → Proper q → Says (corner shape q) (Touches shape q)
+corner-says-touching shape q ok =
+    let a = three shape .a in
+    let b = three shape .b in
+    let c = three shape .c in
+    let e = corner-is-touching {shape = shape} ok in
+    says-iff
+    (λ h. e .0 (record { box = h .0; ab = h .1 .0; bc = h .1 .1 .0; ca = h .1 .1 .1 }))
+    (λ t. let h = e .1 t in (h .box, (h .ab, (h .bc, h .ca))))
+    (says-and (overlap-says (bounds (three shape)) q)
+    (says-and (says-not (separates-says a b c q)) (says-and (says-not (separates-says b c a q)) (says-not (separates-says c a b q)))))

@@ -1,0 +1,12 @@
+pub mod Natural
+pub mod Between
+pub mod Passing
+pub mod Quadrant
+pub mod Touching
+pub mod Bias
+pub mod Weights
+pub mod Theorem
+pub mod Gaps
+pub mod Answers
+pub mod Marked
+pub mod Sizes

@@ -1,0 +1,4 @@
+pub mod Touches
+pub mod Corner
+pub mod Edges
+pub mod Marked

@@ -1,0 +1,222 @@
+// Whether a shape touches a closed rectangle: by its bounding box, and exactly, by the corners of the rectangle.
+// The exact test comes in parts, so that what is the same for all rectangles, or for those of a row, is computed once.
+ghost use mathlib.Core.Path.{_≡_};
+ghost use Rattle.numbers.specs.Says.{Says};
+ghost use Rattle.screen.specs.Rectangle.{Proper};
+ghost use Rattle.shape.specs.Shape.{InRange, Placed};
+ghost use Rattle.touch.specs.Touches.{Touches};
+ghost use Rattle.touch.specs.Corner.{three, lesser, greater, bounds, Overlap, Box};
+ghost use Rattle.touch.specs.Edges.{AllPlaced, edgeOf, edgesOf, rowEdge, rowEdges, ApartAt, Clear, Within, EdgeRange, EdgesRange, RowEdgeRange, RowEdgesRange};
+use screen::Rectangle;
+use shape::Shape;
+use shape::Vertex;
+
+// Three vertices: those of a triangle, or of a line or a point with the last one repeated.
+pub struct Three {
+    pub a: Vertex,
+    pub b: Vertex,
+    pub c: Vertex,
+}
+
+// A bounding box: from left to right and from top to bottom, all four sides included.
+pub struct Bounds {
+    pub left: i32,
+    pub right: i32,
+    pub top: i32,
+    pub bottom: i32,
+}
+
+// An edge: where it starts, the differences to its end, and the edge value of the third vertex.
+pub struct Edge {
+    pub x: i64,
+    pub y: i64,
+    pub dx: i64,
+    pub dy: i64,
+    pub third: i64,
+}
+
+// The three edges of a shape.
+pub struct Edges {
+    pub ab: Edge,
+    pub bc: Edge,
+    pub ca: Edge,
+}
+
+// An edge in a row: upper and lower are the parts of its edge values that the top and the bottom of the row decide.
+pub struct RowEdge {
+    pub x: i64,
+    pub dy: i64,
+    pub third: i64,
+    pub upper: i64,
+    pub lower: i64,
+}
+
+// The three edges of a shape in a row.
+pub struct RowEdges {
+    pub ab: RowEdge,
+    pub bc: RowEdge,
+    pub ca: RowEdge,
+}
+
+// The vertices of a shape, three of them.
+pub fn three_of(shape: Shape) -> Three
+    ensures { λ r. ⌜ r ≡ three shape ⌝ }
+{
+    match shape {
+        Shape::Point(a) => Three { a: a, b: a, c: a },
+        Shape::Line(a, b) => Three { a: a, b: b, c: b },
+        Shape::Triangle(a, b, c) => Three { a: a, b: b, c: c },
+    }
+}
+
+// The lesser of two coordinates.
+fn least(x: i32, y: i32) -> i32
+    ensures { λ r. ⌜ r ≡ lesser x y ⌝ }
+{
+    if x <= y { x } else { y }
+}
+
+// The greater of two coordinates.
+fn most(x: i32, y: i32) -> i32
+    ensures { λ r. ⌜ r ≡ greater x y ⌝ }
+{
+    if x <= y { y } else { x }
+}
+
+// The bounding box of three vertices.
+pub fn bounds_of(vertices: Three) -> Bounds
+    ensures { λ r. ⌜ r ≡ bounds vertices ⌝ }
+{
+    let a = vertices.a;
+    let b = vertices.b;
+    let c = vertices.c;
+    Bounds {
+        left: least(a.x, least(b.x, c.x)),
+        right: most(a.x, most(b.x, c.x)),
+        top: least(a.y, least(b.y, c.y)),
+        bottom: most(a.y, most(b.y, c.y)),
+    }
+}
+
+// Whether the box and the rectangle have a point in common.
+fn overlap(around: Bounds, rectangle: Rectangle) -> bool
+    ensures { λ r. ⌜ Says r (Overlap around rectangle) ⌝ }
+{
+    ((rectangle.left <= around.right as i64) & (around.left as i64 <= rectangle.right))
+        & ((rectangle.top <= around.bottom as i64) & (around.top as i64 <= rectangle.bottom))
+}
+
+// Whether the rectangle meets the shape's bounding box.
+pub fn box_touches(shape: Shape, rectangle: Rectangle) -> bool
+    ensures { λ r. ⌜ Says r (Box shape rectangle) ⌝ }
+{
+    overlap(bounds_of(three_of(shape)), rectangle)
+}
+
+// The edge from a to b, with the edge value of c.
+fn edge_of(a: Vertex, b: Vertex, c: Vertex) -> Edge
+    requires { ⌜ (Placed a) × (Placed b) × (Placed c) ⌝ }
+    ensures { λ r. ⌜ r ≡ edgeOf a b c ⌝ }
+{
+    let x = a.x as i64;
+    let y = a.y as i64;
+    let dx = b.x as i64 - x;
+    let dy = b.y as i64 - y;
+    let third = (c.x as i64 - x) * dy - (c.y as i64 - y) * dx;
+    Edge {
+        x,
+        y,
+        dx,
+        dy,
+        third,
+    }
+}
+
+// The three edges, each with the edge value of the vertex that it lacks.
+pub fn edges_of(vertices: Three) -> Edges
+    requires { ⌜ AllPlaced vertices ⌝ }
+    ensures { λ r. ⌜ r ≡ edgesOf vertices ⌝ }
+{
+    let a = vertices.a;
+    let b = vertices.b;
+    let c = vertices.c;
+    Edges {
+        ab: edge_of(a, b, c),
+        bc: edge_of(b, c, a),
+        ca: edge_of(c, a, b),
+    }
+}
+
+// An edge, in the row from top to bottom.
+fn row_edge(edge: Edge, top: i64, bottom: i64) -> RowEdge
+    requires { ⌜ (EdgeRange edge) × (Within 524288 top) × (Within 524288 bottom) ⌝ }
+    ensures { λ r. ⌜ r ≡ rowEdge edge top bottom ⌝ }
+{
+    RowEdge {
+        x: edge.x,
+        dy: edge.dy,
+        third: edge.third,
+        upper: (top - edge.y) * edge.dx,
+        lower: (bottom - edge.y) * edge.dx,
+    }
+}
+
+// The three edges, in the row from top to bottom.
+pub fn row_edges(edges: Edges, top: i64, bottom: i64) -> RowEdges
+    requires { ⌜ (EdgesRange edges) × (Within 524288 top) × (Within 524288 bottom) ⌝ }
+    ensures { λ r. ⌜ r ≡ rowEdges edges top bottom ⌝ }
+{
+    RowEdges {
+        ab: row_edge(edges.ab, top, bottom),
+        bc: row_edge(edges.bc, top, bottom),
+        ca: row_edge(edges.ca, top, bottom),
+    }
+}
+
+// Whether the four corners, in the row from left to right, lie strictly on a side of the edge on which the third vertex does not lie.
+fn apart_at(edge: RowEdge, left: i64, right: i64) -> bool
+    requires { ⌜ (RowEdgeRange edge) × (Within 524288 left) × (Within 524288 right) ⌝ }
+    ensures { λ r. ⌜ Says r (ApartAt edge left right) ⌝ }
+{
+    let third = edge.third;
+    let near = (left - edge.x) * edge.dy;
+    let far = (right - edge.x) * edge.dy;
+    let p = near - edge.upper;
+    let q = far - edge.upper;
+    let r = near - edge.lower;
+    let s = far - edge.lower;
+    let above = (third <= 0) & (((0 < p) & (0 < q)) & ((0 < r) & (0 < s)));
+    let below = (0 <= third) & (((p < 0) & (q < 0)) & ((r < 0) & (s < 0)));
+    above | below
+}
+
+// Whether no edge separates the shape from what lies in the row from left to right.
+pub fn clear(edges: RowEdges, left: i64, right: i64) -> bool
+    requires { ⌜ (RowEdgesRange edges) × (Within 524288 left) × (Within 524288 right) ⌝ }
+    ensures { λ r. ⌜ Says r (Clear edges left right) ⌝ }
+{
+    if apart_at(edges.ab, left, right) {
+        return false;
+    }
+    if apart_at(edges.bc, left, right) {
+        return false;
+    }
+    if apart_at(edges.ca, left, right) {
+        return false;
+    }
+    true
+}
+
+// Whether the shape touches the rectangle.
+pub fn corner_touches(shape: Shape, rectangle: Rectangle) -> bool
+    requires { ⌜ (InRange shape) × (Proper rectangle) ⌝ }
+    ensures { λ r. ⌜ Says r (Touches shape rectangle) ⌝ }
+{
+    let vertices = three_of(shape);
+    if overlap(bounds_of(vertices), rectangle) {
+        let edges = row_edges(edges_of(vertices), rectangle.top, rectangle.bottom);
+        clear(edges, rectangle.left, rectangle.right)
+    } else {
+        false
+    }
+}

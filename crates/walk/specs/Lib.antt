@@ -1,0 +1,3 @@
+pub mod Touched
+pub mod Lists
+pub mod Row

@@ -1,0 +1,36 @@
+-- How the list of touched tiles stands at the front of a slice while the walk goes on.
+use Prim.Native.Nat.{ℕ, _*_, _≤_, _<_}
+use mathlib.Core.Path.{_≡_}
+use mathlib.Core.List.{List}
+use lib.ListN.{length, getD}
+use Rattle.screen.specs.declared.Screen.{Screen}
+use Rattle.screen.specs.Screen.{columns, tiles}
+use Rattle.screen.specs.Rectangle.{rectangle}
+use Rattle.shape.specs.declared.Shape.{Shape}
+use Rattle.touch.specs.Touches.{Touches}
+
+-- t is the number of a tile of the screen, and the shape touches the tile
+abbrev pub IsTouched : Screen → Shape → ℕ → Type 0
+IsTouched d shape t = (t < tiles d) × Touches shape (rectangle d t)
+
+-- of P, the numbers below m
+abbrev pub Below : ℕ → (ℕ → Type 0) → ℕ → Type 0
+Below m P t = (t < m) × P t
+
+-- t stands at one of the first n places
+pub record Place (xs : List ℕ) (n t : ℕ) : Type 0 where
+  pub index : ℕ
+  pub before : index < n
+  pub there : getD xs index 0 ≡ t
+
+-- the first n places list the numbers that satisfy P, rising; every other place is as it was
+pub record Lists (P : ℕ → Type 0) (n : ℕ) (old new : List ℕ) : Type 0 where
+  pub size : length new ≡ length old
+  pub rest : (i : ℕ) → n ≤ i → getD new i 0 ≡ getD old i 0
+  pub rising : (i j : ℕ) → i < j → j < n → getD new i 0 < getD new j 0
+  pub sound : (i : ℕ) → i < n → P (getD new i 0)
+  pub whole : (t : ℕ) → P t → Place new n t
+
+-- the touched tiles of the rows before a row
+abbrev pub ListsBefore : Screen → Shape → (row n : ℕ) → (old new : List ℕ) → Type 0
+ListsBefore d shape row n old new = Lists (Below (row * columns d) (IsTouched d shape)) n old new

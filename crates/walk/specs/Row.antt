@@ -1,0 +1,54 @@
+-- What the walk finds in a row: the first touched column, and the run from a column on.
+use Prim.Native.Nat.{ℕ, _+_, _≤_, _<_}
+use mathlib.Core.Path.{_≡_}
+use mathlib.Core.List.{List}
+use lib.ListN.{length, getD}
+use Rattle.screen.specs.declared.Screen.{Screen}
+use Rattle.screen.specs.declared.Span.{Span}
+use Rattle.screen.specs.Rectangle.{near, far, Meets, Meeting}
+use Rattle.shape.specs.declared.Shape.{Shape}
+use Rattle.touch.specs.declared.Edges.{Edges}
+use Rattle.touch.specs.declared.RowEdges.{RowEdges}
+use Rattle.touch.specs.Corner.{bounds, triangle}
+use Rattle.touch.specs.Edges.{starts, Clear}
+
+-- no edge separates the tile of that column
+abbrev pub ClearIn : Screen → RowEdges → ℕ → Type 0
+ClearIn d e column = Clear e (near (d .width) (d .s) column) (far (d .width) (d .s) column)
+
+-- r is the first column of the span with P, or one past the span where it has none
+pub record First (P : ℕ → Type 0) (span : Span) (r : ℕ) : Type 0 where
+  pub from : span .start ≤ r
+  pub none : (k : ℕ) → span .start ≤ k → k < r → P k → ⊥
+  pub first : r < span .end → P r
+
+-- the numbers from base + from on and before base + stop stand from place count on and before place n; every other place is as it was; P holds of the columns
+pub record Run (P : ℕ → Type 0) (base from stop count n : ℕ) (old new : List ℕ) : Type 0 where
+  pub size : length new ≡ length old
+  pub from≤ : from ≤ stop
+  pub as-many : n + from ≡ count + stop
+  pub all : (k : ℕ) → from ≤ k → k < stop → P k
+  pub written : (i : ℕ) → count ≤ i → i < n → getD new i 0 + count ≡ base + from + i
+  pub under : (i : ℕ) → i < count → getD new i 0 ≡ getD old i 0
+  pub over : (i : ℕ) → n ≤ i → getD new i 0 ≡ getD old i 0
+
+-- the run from the start of the span: it stops at the span's end, or where P does not hold
+pub record RunIn (P : ℕ → Type 0) (base : ℕ) (span : Span) (count n : ℕ) (old new : List ℕ) : Type 0 where
+  pub stop : ℕ
+  pub within : stop ≤ span .end
+  pub run : Run P base (span .start) stop count n old new
+  pub ends : stop < span .end → P stop → ⊥
+
+-- ---- the shape that the edges are of, and its bounding box
+
+abbrev pub shapeOf : Edges → Shape
+shapeOf e = triangle (starts e)
+
+abbrev pub MeetingColumns : Screen → Edges → Span → Type 0
+MeetingColumns d e span = Meeting (d .width) (d .s) (bounds (starts e) .left) (bounds (starts e) .right) span
+
+abbrev pub MeetingRows : Screen → Edges → Span → Type 0
+MeetingRows d e span = Meeting (d .height) (d .s) (bounds (starts e) .top) (bounds (starts e) .bottom) span
+
+abbrev pub MeetsRow : Screen → Edges → ℕ → Type 0
+MeetsRow d e row = Meets (d .height) (d .s) (bounds (starts e) .top) (bounds (starts e) .bottom) row

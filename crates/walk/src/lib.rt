@@ -1,0 +1,133 @@
+// The row walk: the tiles that a shape touches, once each, in rising number. Row by row in the bounding box, left to right; a row is left after its run of touched tiles.
+// No tile outside the box is tested, and none twice.
+ghost use mathlib.Core.Path.{_≡_};
+ghost use mathlib.Core.List.{List};
+ghost use Prim.Native.Nat.{ℕ, _+_, _*_, _≤_, _<_};
+ghost use lib.ListN.{length};
+ghost use Rattle.numbers.specs.Says.{Says};
+ghost use Rattle.screen.specs.Screen.{Allowed, columns, rows, tiles};
+ghost use Rattle.shape.specs.Shape.{InRange};
+ghost use Rattle.touch.specs.Edges.{Outline, RowEdgesRange};
+ghost use Rattle.walk.specs.Touched.{Walked};
+ghost use Rattle.walk.specs.Lists.{IsTouched, Lists, ListsBefore};
+ghost use Rattle.walk.specs.Row.{ClearIn, First, RunIn, shapeOf, MeetingColumns, MeetingRows, MeetsRow};
+use numbers::wide;
+use screen::Screen;
+use screen::Span;
+use shape::Shape;
+use touch::Edges;
+use touch::RowEdges;
+
+// Whether no edge separates the tile of a column.
+fn clear_in(screen: Screen, edges: RowEdges, column: u32) -> bool
+    requires { ⌜ (Allowed screen) × (RowEdgesRange edges) × (column < columns screen) ⌝ }
+    ensures { λ r. ⌜ Says r (ClearIn screen edges column) ⌝ }
+{
+    let left = screen::near_side(screen.width, screen.s, column);
+    let right = screen::far_side(screen.width, screen.s, column);
+    touch::clear(edges, left, right)
+}
+
+// The first clear column of a span, or one past the span where it has none.
+fn first_clear(screen: Screen, edges: RowEdges, span: Span) -> u32
+    requires { ⌜ (Allowed screen) × (RowEdgesRange edges) × (span .end ≤ columns screen) ⌝ }
+    ensures { λ r. ⌜ First (ClearIn screen edges) span r ⌝ }
+{
+    let end = span.end;
+    let mut column = span.start;
+    while column < end {
+        if clear_in(screen, edges, column) {
+            return column;
+        }
+        column += 1;
+    }
+    column
+}
+
+// Writes the numbers of the tiles in the run that starts with the span, from place count on, and answers the place after the last.
+fn append_run(
+    screen: Screen,
+    edges: RowEdges,
+    base: u32,
+    span: Span,
+    list: &mut [u32],
+    count: u32,
+) -> u32
+    requires { ⌜ (Allowed screen) × (RowEdgesRange edges) × (span .end ≤ columns screen) × (span .start ≤ span .end) ⌝ }
+    requires { ⌜ (count ≤ base + span .start) × (base + span .end ≤ 4096) × (4096 ≤ length (now list)) ⌝ }
+    ensures { λ r. ⌜ RunIn (ClearIn screen edges) base span count r (now (list .entry)) (now (list .exit)) ⌝ }
+{
+    let start = span.start;
+    let past = span.end;
+    let mut column = start;
+    let mut n = count;
+    while column < past {
+        if !clear_in(screen, edges, column) {
+            return n;
+        }
+        let at = wide(n);
+        list[at] = base + column;
+        n += 1;
+        column += 1;
+    }
+    n
+}
+
+// Adds the touched tiles of a row to those of the rows before it, of which there are count, and answers how many there are then.
+fn walk_row(screen: Screen, edges: Edges, row: u32, span: Span, list: &mut [u32], count: u32) -> u32
+    requires { ⌜ (Allowed screen) × (Outline edges) × (MeetingColumns screen edges span) ⌝ }
+    requires { ⌜ (row < rows screen) × (MeetsRow screen edges row) ⌝ }
+    requires { ⌜ (count ≤ row * columns screen) × (4096 ≤ length (now list)) ⌝ }
+    ensures { λ r. ⌜ ((old : List ℕ) → ListsBefore screen (shapeOf edges) row count old (now (list .entry)) → ListsBefore screen (shapeOf edges) (row + 1) r old (now (list .exit))) ⌝ }
+{
+    let top = screen::near_side(screen.height, screen.s, row);
+    let bottom = screen::far_side(screen.height, screen.s, row);
+    let in_row = touch::row_edges(edges, top, bottom);
+    let end = span.end;
+    let first = first_clear(screen, in_row, span);
+    if end <= first {
+        return count;
+    }
+    let base = row * screen::columns_of(screen);
+    let at = wide(count);
+    list[at] = base + first;
+    append_run(
+        screen,
+        in_row,
+        base,
+        Span {
+            start: first + 1,
+            end,
+        },
+        list,
+        count + 1,
+    )
+}
+
+// Lists the tiles that the shape of the edges touches, in the columns and rows that meet its bounding box, and answers how many.
+fn walk_rows(screen: Screen, edges: Edges, columns: Span, rows: Span, list: &mut [u32]) -> u32
+    requires { ⌜ (Allowed screen) × (Outline edges) × (MeetingColumns screen edges columns) × (MeetingRows screen edges rows) ⌝ }
+    requires { ⌜ 4096 ≤ length (now list) ⌝ }
+    ensures { λ r. ⌜ Lists (IsTouched screen (shapeOf edges)) r (now (list .entry)) (now (list .exit)) ⌝ }
+{
+    let end = rows.end;
+    let mut row = rows.start;
+    let mut count = 0;
+    while row < end {
+        count = walk_row(screen, edges, row, columns, list, count);
+        row += 1;
+    }
+    count
+}
+
+// Writes the numbers of the tiles that the shape touches, rising, at the front of the list, and answers how many there are.
+pub fn touched_tiles(screen: Screen, shape: Shape, list: &mut [u32]) -> u32
+    requires { ⌜ (Allowed screen) × (InRange shape) × (4096 ≤ length (now list)) ⌝ }
+    ensures { λ r. ⌜ Walked screen shape r (now (list .entry)) (now (list .exit)) ⌝ }
+{
+    let vertices = touch::three_of(shape);
+    let around = touch::bounds_of(vertices);
+    let columns = screen::meeting(screen.width, screen.s, around.left, around.right);
+    let rows = screen::meeting(screen.height, screen.s, around.top, around.bottom);
+    walk_rows(screen, touch::edges_of(vertices), columns, rows, list)
+}

@@ -14,5 +14,10 @@ cc -O1 -Wall -Wextra -Iinclude c/stack.c -L"$made" -lflourscoop -o "$made/stack"
 "$made/stack"
 echo
 size -t "$made/libflourscoop.a"
+# on Arm the archive for x86-64 is made on the way
+if [ "$(uname -m)" = aarch64 ]; then
+    need llvm-size llvm
+    llvm-size ../target/staticlib/libcapi.a
+fi
 echo
 echo "needed from outside:" "$(nm -u "$made/libflourscoop.a" | awk 'NF == 2 { print $2 }' | sort -u | tr '\n' ' ')"

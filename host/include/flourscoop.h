@@ -6,7 +6,7 @@
  *   - Any argument is safe as long as each pointer is: nothing is assumed of the numbers or of the words in the pool.
  *   - It returns one of the numbers below. 0 means done; any other is a refusal. A refusal changes no word of the pool.
  *   - What a pointer at the end of the arguments names is always written: the value on 0, zero on a refusal.
- *   - It always returns. It uses no heap, no global data and no operating system.
+ *   - It always returns. It uses no heap, no global data and no operating system; of the C library it needs memset.
  *   - It neither reads nor writes a word past the pool's room, even where the slice is longer.
  *
  * POINTERS
@@ -18,8 +18,9 @@
  *   Calls on different pools are independent and may run at the same time. Calls on one pool must not overlap; two calls
  *   of which each only audits or reads may. Calls that take no pool may always run.
  *
- * STACK, measured in bytes on Linux (docs/PERFORMANCE.md has the table)
- *   STACK-TABLE
+ * STACK, in bytes, measured on Arm (aarch64)
+ *   bin 17,104, of which 16,384 list the touched tiles; audit 2,256; read 2,304; release 2,288; corner 240; box 160; open 64.
+ *   On x86-64 it was not measured.
  *
  * SCREEN AND UNITS
  *   A screen has a width and a height of 1 to 4,096 pixels. A tile is a square of 2^s by 2^s pixels, s from 3 to 6.

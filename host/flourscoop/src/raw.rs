@@ -3,143 +3,40 @@
 use crate::{Pixel, Screen, Shape, Vertex};
 
 // The declarations of include/flourscoop.h. Nothing checks them against the source of the archive but the tests.
+#[rustfmt::skip]
 extern "C" {
     fn flourscoop_open(pool: *mut u32, words: usize, width: u32, height: u32, s: u32, blocks: u32) -> u32;
     fn flourscoop_audit(pool: *const u32, words: usize) -> u32;
     fn flourscoop_read(pool: *const u32, words: usize, tile: u32, place: u32, id: *mut u32) -> u32;
     fn flourscoop_release(pool: *mut u32, words: usize, tile: u32, blocks: *mut u32) -> u32;
 
-    #[rustfmt::skip]
-    fn flourscoop_bin_point(
-        pool: *mut u32,
-        words: usize,
-        id: u32,
-        x1: i32,
-        y1: i32,
-        tiles: *mut u32,
-        blocks: *mut u32,
-    ) -> u32;
-    #[rustfmt::skip]
-    fn flourscoop_bin_line(
-        pool: *mut u32,
-        words: usize,
-        id: u32,
-        x1: i32,
-        y1: i32,
-        x2: i32,
-        y2: i32,
-        tiles: *mut u32,
-        blocks: *mut u32,
-    ) -> u32;
-    #[rustfmt::skip]
-    fn flourscoop_bin_triangle(
-        pool: *mut u32,
-        words: usize,
-        id: u32,
-        x1: i32,
-        y1: i32,
-        x2: i32,
-        y2: i32,
-        x3: i32,
-        y3: i32,
-        tiles: *mut u32,
-        blocks: *mut u32,
-    ) -> u32;
+    fn flourscoop_bin_point(pool: *mut u32, words: usize, id: u32,
+        x1: i32, y1: i32, tiles: *mut u32, blocks: *mut u32) -> u32;
+    fn flourscoop_bin_line(pool: *mut u32, words: usize, id: u32,
+        x1: i32, y1: i32, x2: i32, y2: i32, tiles: *mut u32, blocks: *mut u32) -> u32;
+    fn flourscoop_bin_triangle(pool: *mut u32, words: usize, id: u32,
+        x1: i32, y1: i32, x2: i32, y2: i32, x3: i32, y3: i32, tiles: *mut u32, blocks: *mut u32) -> u32;
 
-    #[rustfmt::skip]
-    fn flourscoop_bin_pixels_point(
-        pool: *mut u32,
-        words: usize,
-        id: u32,
-        x1: f32,
-        y1: f32,
-        tiles: *mut u32,
-        blocks: *mut u32,
-    ) -> u32;
-    #[rustfmt::skip]
-    fn flourscoop_bin_pixels_line(
-        pool: *mut u32,
-        words: usize,
-        id: u32,
-        x1: f32,
-        y1: f32,
-        x2: f32,
-        y2: f32,
-        tiles: *mut u32,
-        blocks: *mut u32,
-    ) -> u32;
-    #[rustfmt::skip]
-    fn flourscoop_bin_pixels_triangle(
-        pool: *mut u32,
-        words: usize,
-        id: u32,
-        x1: f32,
-        y1: f32,
-        x2: f32,
-        y2: f32,
-        x3: f32,
-        y3: f32,
-        tiles: *mut u32,
-        blocks: *mut u32,
-    ) -> u32;
+    fn flourscoop_bin_pixels_point(pool: *mut u32, words: usize, id: u32,
+        x1: f32, y1: f32, tiles: *mut u32, blocks: *mut u32) -> u32;
+    fn flourscoop_bin_pixels_line(pool: *mut u32, words: usize, id: u32,
+        x1: f32, y1: f32, x2: f32, y2: f32, tiles: *mut u32, blocks: *mut u32) -> u32;
+    fn flourscoop_bin_pixels_triangle(pool: *mut u32, words: usize, id: u32,
+        x1: f32, y1: f32, x2: f32, y2: f32, x3: f32, y3: f32, tiles: *mut u32, blocks: *mut u32) -> u32;
 
-    #[rustfmt::skip]
-    fn flourscoop_box_point(width: u32, height: u32, s: u32, tile: u32, x1: i32, y1: i32, touches: *mut u32) -> u32;
-    #[rustfmt::skip]
-    fn flourscoop_box_line(
-        width: u32,
-        height: u32,
-        s: u32,
-        tile: u32,
-        x1: i32,
-        y1: i32,
-        x2: i32,
-        y2: i32,
-        touches: *mut u32,
-    ) -> u32;
-    #[rustfmt::skip]
-    fn flourscoop_box_triangle(
-        width: u32,
-        height: u32,
-        s: u32,
-        tile: u32,
-        x1: i32,
-        y1: i32,
-        x2: i32,
-        y2: i32,
-        x3: i32,
-        y3: i32,
-        touches: *mut u32,
-    ) -> u32;
+    fn flourscoop_box_point(width: u32, height: u32, s: u32, tile: u32,
+        x1: i32, y1: i32, touches: *mut u32) -> u32;
+    fn flourscoop_box_line(width: u32, height: u32, s: u32, tile: u32,
+        x1: i32, y1: i32, x2: i32, y2: i32, touches: *mut u32) -> u32;
+    fn flourscoop_box_triangle(width: u32, height: u32, s: u32, tile: u32,
+        x1: i32, y1: i32, x2: i32, y2: i32, x3: i32, y3: i32, touches: *mut u32) -> u32;
 
-    #[rustfmt::skip]
-    fn flourscoop_corner_point(width: u32, height: u32, s: u32, tile: u32, x1: i32, y1: i32, touches: *mut u32) -> u32;
-    #[rustfmt::skip]
-    fn flourscoop_corner_line(
-        width: u32,
-        height: u32,
-        s: u32,
-        tile: u32,
-        x1: i32,
-        y1: i32,
-        x2: i32,
-        y2: i32,
-        touches: *mut u32,
-    ) -> u32;
-    #[rustfmt::skip]
-    fn flourscoop_corner_triangle(
-        width: u32,
-        height: u32,
-        s: u32,
-        tile: u32,
-        x1: i32,
-        y1: i32,
-        x2: i32,
-        y2: i32,
-        x3: i32,
-        y3: i32,
-        touches: *mut u32,
-    ) -> u32;
+    fn flourscoop_corner_point(width: u32, height: u32, s: u32, tile: u32,
+        x1: i32, y1: i32, touches: *mut u32) -> u32;
+    fn flourscoop_corner_line(width: u32, height: u32, s: u32, tile: u32,
+        x1: i32, y1: i32, x2: i32, y2: i32, touches: *mut u32) -> u32;
+    fn flourscoop_corner_triangle(width: u32, height: u32, s: u32, tile: u32,
+        x1: i32, y1: i32, x2: i32, y2: i32, x3: i32, y3: i32, touches: *mut u32) -> u32;
 }
 
 /// The number that a call returned, and what it wrote through its pointers: zeros where it refused.
@@ -161,7 +58,7 @@ fn answer<const VALUES: usize>(call: impl FnOnce(&mut [u32; VALUES]) -> u32) -> 
 
 /// Calls the point, line or triangle form: what comes before the coordinates, the shape, what comes after.
 macro_rules! call {
-    ($point:ident, $line:ident, $triangle:ident, ($($before:expr),*), $shape:expr, ($($after:expr),*)) => {
+    ($point:ident $line:ident $triangle:ident: ($($before:expr),*) $shape:ident ($($after:expr),*)) => {
         // the pointers are those of references that live through the call
         match $shape {
             Shape::Point(a) => unsafe { $point($($before,)* a.x, a.y, $($after),*) },
@@ -187,28 +84,16 @@ pub fn audit(pool: &[u32]) -> Answer<0> {
 /// Bins a shape in units. Values: tiles listed, blocks taken. Numbers: 0, 4, 5, 7, 8.
 pub fn bin(pool: &mut [u32], id: u32, shape: Shape<Vertex>) -> Answer<2> {
     answer(|[tiles, blocks]| {
-        call!(
-            flourscoop_bin_point,
-            flourscoop_bin_line,
-            flourscoop_bin_triangle,
-            (pool.as_mut_ptr(), pool.len(), id),
-            shape,
-            (tiles, blocks)
-        )
+        call!(flourscoop_bin_point flourscoop_bin_line flourscoop_bin_triangle:
+            (pool.as_mut_ptr(), pool.len(), id) shape (tiles, blocks))
     })
 }
 
 /// Bins a shape in pixels. Values: tiles listed, blocks taken. Numbers: 0, 4, 5, 6, 7, 8.
 pub fn bin_pixels(pool: &mut [u32], id: u32, shape: Shape<Pixel>) -> Answer<2> {
     answer(|[tiles, blocks]| {
-        call!(
-            flourscoop_bin_pixels_point,
-            flourscoop_bin_pixels_line,
-            flourscoop_bin_pixels_triangle,
-            (pool.as_mut_ptr(), pool.len(), id),
-            shape,
-            (tiles, blocks)
-        )
+        call!(flourscoop_bin_pixels_point flourscoop_bin_pixels_line flourscoop_bin_pixels_triangle:
+            (pool.as_mut_ptr(), pool.len(), id) shape (tiles, blocks))
     })
 }
 
@@ -226,14 +111,8 @@ pub fn release(pool: &mut [u32], tile: u32) -> Answer<1> {
 pub fn box_touches(screen: Screen, tile: u32, shape: Shape<Vertex>) -> Answer<1> {
     let Screen { width, height, s } = screen;
     answer(|[touches]| {
-        call!(
-            flourscoop_box_point,
-            flourscoop_box_line,
-            flourscoop_box_triangle,
-            (width, height, s, tile),
-            shape,
-            (touches)
-        )
+        call!(flourscoop_box_point flourscoop_box_line flourscoop_box_triangle:
+            (width, height, s, tile) shape (touches))
     })
 }
 
@@ -241,13 +120,7 @@ pub fn box_touches(screen: Screen, tile: u32, shape: Shape<Vertex>) -> Answer<1>
 pub fn corner_touches(screen: Screen, tile: u32, shape: Shape<Vertex>) -> Answer<1> {
     let Screen { width, height, s } = screen;
     answer(|[touches]| {
-        call!(
-            flourscoop_corner_point,
-            flourscoop_corner_line,
-            flourscoop_corner_triangle,
-            (width, height, s, tile),
-            shape,
-            (touches)
-        )
+        call!(flourscoop_corner_point flourscoop_corner_line flourscoop_corner_triangle:
+            (width, height, s, tile) shape (touches))
     })
 }

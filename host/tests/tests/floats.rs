@@ -122,7 +122,7 @@ fn units_are_the_model_s() {
     hold(0xF100_0005, 0x1_0000 + 2_000_000, |_: &Pattern, ()| ());
 }
 
-/// All 2^32 patterns, as x: `cargo test -p tests --test floats -- --ignored --nocapture`. It takes hours.
+/// All 2^32 patterns, as x: `cargo test -p tests --test floats -- --ignored --nocapture`.
 #[test]
 #[ignore]
 fn units_of_all_patterns_are_the_model_s() {

@@ -1,8 +1,8 @@
--- Demand 2: what an accepted bin and an accepted release do to a sound pool, and when a bin is refused for room.
+-- Demand 2: with which number a bin and a release of a sound pool are answered, and what an accepted one does to it.
 use mathlib.Core.Path.{_≡_}
-use mathlib.Core.Logic.{_≢_, _↔_}
+use mathlib.Core.Logic.{_≢_, _⊎_, _↔_}
 use mathlib.Core.List.{List, [], _∷_, _++_}
-use Prim.Native.Nat.{ℕ, _+_, _<_}
+use Prim.Native.Nat.{ℕ, _+_, _≤_, _<_}
 use lib.ListN.{length}
 use Rattle.numbers.specs.Ceil.{ceil}
 use Rattle.screen.specs.Rectangle.{rectangle}
@@ -27,33 +27,49 @@ pub record StaysSound (p q : List ℕ) : Type 0 where
   pub screen : screenOf q ≡ screenOf p
   pub blocks : blocksOf q ≡ blocksOf p
 
--- an accepted bin: the id stands once more at the end of the list of each tile that the shape touches, and of no other
-pub record Listed (p : List ℕ) (shape : Shape) (id : ℕ) (a : Binned) (q : List ℕ) : Type 0 where
-  pub stays : StaysSound p q
-  pub touched : (t : ℕ) → t < tilesOf p → Touches shape (rectangle (screenOf p) t) → listIn q t ≡ listIn p t ++ (id ∷ [])
-  pub others : (t : ℕ) → t < tilesOf p → (Touches shape (rectangle (screenOf p) t) → ⊥) → listIn q t ≡ listIn p t
-  -- the counts are those of the touched tiles, and of the blocks that are free no more
-  pub tiles : (ts : List ℕ) → TouchedTiles (screenOf p) shape ts → a .tiles ≡ length ts
-  pub blocks : freeIn q + a .blocks ≡ freeIn p
+-- ---- bin
 
--- no cause before 8 applies, and the shape needs more blocks than are free
-pub record NoRoom (p : List ℕ) (shape : Shape) (id : ℕ) : Type 0 where
+-- no cause before 8 applies; ts are the tiles that the shape touches
+pub record Binnable (p : List ℕ) (shape : Shape) (id : ℕ) : Type 0 where
   pub id< : id < edition .limit
   pub in-range : InRange shape
   pub ts : List ℕ
   pub touched : TouchedTiles (screenOf p) shape ts
-  pub short : freeIn p < need edition p ts
 
+-- the blocks that it needs exceed the free ones, or do not
+abbrev pub NoRoom : (p : List ℕ) → Shape → (id : ℕ) → Type 0
+NoRoom p shape id = (o : Binnable p shape id) × (freeIn p < need edition p (o .ts))
+
+abbrev pub HasRoom : (p : List ℕ) → Shape → (id : ℕ) → Type 0
+HasRoom p shape id = (o : Binnable p shape id) × (need edition p (o .ts) ≤ freeIn p)
+
+-- an accepted bin: the id stands once more at the end of the list of each tile that the shape touches, and of no other
+pub record Listed (p : List ℕ) (shape : Shape) (id : ℕ) (a : Binned) (q : List ℕ) : Type 0 where
+  pub touched : (t : ℕ) → t < tilesOf p → Touches shape (rectangle (screenOf p) t) → listIn q t ≡ listIn p t ++ (id ∷ [])
+  pub others : (t : ℕ) → t < tilesOf p → (Touches shape (rectangle (screenOf p) t) → ⊥) → listIn q t ≡ listIn p t
+  -- the counts are those of the touched tiles, and of the blocks that are free no more
+  pub tiles : (ts : List ℕ) × TouchedTiles (screenOf p) shape ts × (a .tiles ≡ length ts)
+  pub blocks : freeIn q + a .blocks ≡ freeIn p
+
+-- each number is given exactly where its cause applies and no earlier one
 pub record Demand2Bin (p : List ℕ) (shape : Shape) (id : ℕ) (a : Binned) (q : List ℕ) : Type 0 where
-  pub accepted : a .number ≡ 0 → Listed p shape id a q
-  pub room : (a .number ≡ 8) ↔ NoRoom p shape id
+  pub bad-id : (a .number ≡ 5) ↔ (edition .limit ≤ id)
+  pub out-of-range : (a .number ≡ 7) ↔ ((id < edition .limit) × (InRange shape → ⊥))
+  pub no-room : (a .number ≡ 8) ↔ NoRoom p shape id
+  pub done : (a .number ≡ 0) ↔ HasRoom p shape id
+  pub listed : a .number ≡ 0 → Listed p shape id a q
   pub stays : StaysSound p q
 
 -- the same of a shape in pixels, by the shape in units that it is
 pub record Demand2Pixels (p : List ℕ) (shape : PixelShape) (id : ℕ) (a : Binned) (q : List ℕ) : Type 0 where
-  pub accepted : a .number ≡ 0 → (whole : Shape) × (shapeOf shape ≡ SnappedShape.Whole whole) × Listed p whole id a q
-  pub room : (a .number ≡ 8) ↔ ((whole : Shape) × (shapeOf shape ≡ SnappedShape.Whole whole) × NoRoom p whole id)
+  pub bad-id : (a .number ≡ 5) ↔ (edition .limit ≤ id)
+  pub offence : (n : ℕ) → (n ≡ 6) ⊎ (n ≡ 7) → (a .number ≡ n) ↔ ((id < edition .limit) × (shapeOf shape ≡ SnappedShape.Refused n))
+  pub no-room : (a .number ≡ 8) ↔ ((whole : Shape) × (shapeOf shape ≡ SnappedShape.Whole whole) × NoRoom p whole id)
+  pub done : (a .number ≡ 0) ↔ ((whole : Shape) × (shapeOf shape ≡ SnappedShape.Whole whole) × HasRoom p whole id)
+  pub listed : a .number ≡ 0 → (whole : Shape) × (shapeOf shape ≡ SnappedShape.Whole whole) × Listed p whole id a q
   pub stays : StaysSound p q
+
+-- ---- release
 
 -- an accepted release: that one list is empty, and its blocks are returned, poisoned
 pub record Emptied (p : List ℕ) (S : Sound edition p) (t : ℕ) (a : Released) (q : List ℕ) : Type 0 where
@@ -65,5 +81,7 @@ pub record Emptied (p : List ℕ) (S : Sound edition p) (t : ℕ) (a : Released)
   pub poisoned : (b : ℕ) → 0 < times b (tileOf (S .state) t .blocks) → (k : ℕ) → k < edition .ids → blockWord edition (tilesOf p) q b k ≡ edition .poison
 
 pub record Demand2Release (p : List ℕ) (S : Sound edition p) (t : ℕ) (a : Released) (q : List ℕ) : Type 0 where
-  pub accepted : a .number ≡ 0 → Emptied p S t a q
+  pub no-tile : (a .number ≡ 9) ↔ (tilesOf p ≤ t)
+  pub done : (a .number ≡ 0) ↔ (t < tilesOf p)
+  pub emptied : a .number ≡ 0 → Emptied p S t a q
   pub stays : StaysSound p q

@@ -13,7 +13,8 @@ use Rattle.touch.specs.Touches.{Touches}
 use Rattle.snap.specs.declared.SnappedShape.{SnappedShape}
 use Rattle.snap.specs.Shapes.{shapeOf}
 use Rattle.pool.specs.Words.{edition, blockWord}
-use Rattle.calls.specs.Tables.{OpenSays, listIn, freeIn}
+use Rattle.pool.specs.Opening.{OpenSays}
+use Rattle.calls.specs.Tables.{listIn, freeIn}
 use Rattle.demands.specs.History.{Entry, binned, binned-pixels, found, released, Run, callsOf, lessRoom}
 
 -- what a call with its answer does to the lists: an accepted shape goes to the tiles that it touches, an accepted release empties one
@@ -51,10 +52,11 @@ ListedBy d t (e ∷ h) xs = (before : List ℕ) × ListedBy d t h before × Beco
 pub record Openings (d : Screen) (N n : ℕ) (p₁ p₂ : List ℕ) : Type 0 where
   pub old₁ : List ℕ
   pub old₂ : List ℕ
-  pub first : OpenSays old₁ d N 0 p₁
-  pub second : OpenSays old₂ d (N + n) 0 p₂
+  pub first : OpenSays edition old₁ d N 0 p₁
+  pub second : OpenSays edition old₂ d (N + n) 0 p₂
 
--- after any calls on the first pool, and the same less those that it refused for room on the second
+-- After any calls on the first pool, and the same less those that it refused for room on the second. The beginning of a history is a history, so this
+-- holds after each call.
 pub record Demand3 (d : Screen) (N n : ℕ) (h₁ : List Entry) (q₁ : List ℕ) (h₂ : List Entry) (q₂ : List ℕ) : Type 0 where
   -- each shared call got the same answer
   pub answers : h₂ ≡ lessRoom h₁
@@ -72,3 +74,9 @@ Demand3Holds =
     → (h₁ : List Entry) (q₁ : List ℕ) → Run p₁ h₁ q₁
     → (h₂ : List Entry) (q₂ : List ℕ) → callsOf h₂ ≡ callsOf (lessRoom h₁) → Run p₂ h₂ q₂
     → Demand3 d N n h₁ q₁ h₂ q₂
+
+-- and such calls on the second pool there are: it can be given them, and answers as the first did
+abbrev pub Demand3Runs : Type 0
+Demand3Runs =
+    (d : Screen) (N n : ℕ) (p₁ p₂ : List ℕ) → Openings d N n p₁ p₂ → (h₁ : List Entry) (q₁ : List ℕ) → Run p₁ h₁ q₁
+    → (q₂ : List ℕ) × Run p₂ (lessRoom h₁) q₂

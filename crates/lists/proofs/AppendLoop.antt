@@ -17,7 +17,7 @@ use Rattle.pool.proofs.Header.{keeps-tiles}
 use Rattle.lists.specs.Appending.{multiple, need, append, appendAll, Distinct}
 use Rattle.lists.specs.Reach.{Among, AllAmong, Appendable}
 use Rattle.lists.proofs.Counts.{distinct-rest, distinct-first}
-use Rattle.lists.proofs.Several.{append-all-appends}
+use Rattle.lists.proofs.Several.{kept-keeps, append-all-appends}
 
 -- the tiles that are left after i of n, and the next of them
 pub rest-next : (named : List ℕ) (n i : ℕ) → n ≤ length named → i < n → drop i (take n named) ≡ getD named i 0 ∷ drop (i + 1) (take n named)
@@ -86,7 +86,7 @@ module _ {p : List ℕ} {T : ℕ} {t : ℕ} {rest : List ℕ} {id : ℕ} {e : Li
         ready = record {
           among = record {
             sound = subst (Sound edition) (sym f′) (M .sound);
-            tiles = among .tiles ∙ sym (ap tilesOf f′ ∙ keeps-tiles edition-fair (record { long = K .long; fixed = K .header }));
+            tiles = among .tiles ∙ sym (ap tilesOf f′ ∙ keeps-tiles edition-fair (kept-keeps K));
             distinct = distinct-rest D;
           };
           in-range = G .ready .in-range;

@@ -65,6 +65,12 @@ module _ (ids : ℕ) (s : State) (t id : ℕ) where
 
 -- ---- several tiles, none of them twice
 
+pub distinct-one : {T t : ℕ} → t < T → Distinct T (t ∷ [])
+distinct-one {T} {t} ht = record {
+  once = λ u. ⊎-elim (λ (e : u ≡ t). rw e (omega (arith, one-same t))) (λ (ne : u ≢ t). omega (arith, one-other u t ne)) (eq-or-ne u t);
+  below = λ u h. ⊎-elim (λ (e : u ≡ t). rw e ht) (λ (ne : u ≢ t). absurd (omega (arith, one-other u t ne))) (eq-or-ne u t);
+}
+
 pub distinct-rest : {T t : ℕ} {ts : List ℕ} → Distinct T (t ∷ ts) → Distinct T ts
 distinct-rest {T} {t} {ts} D = record { once = λ u. omega (arith, D .once u); below = λ u h. D .below u (times-tail u t ts h) }
 

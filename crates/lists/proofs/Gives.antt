@@ -103,28 +103,24 @@ module _ (L : Layout) (T N : ℕ) where
           );
         }
 
+    given-none : {p fs : List ℕ} → headerWord p 4 ≡ length fs → headerWord p 5 ≡ linkTo fs → Holds (L .ids) (L .poison) (blockWord L T p) fs [] → Given L T N p p [] fs
+    given-none e4 e5 vd = record {
+      within = within-none;
+      tiles = λ u hu i hi. refl;
+      blocks = λ b hb k hk. refl;
+      count = e4;
+      first = e5;
+      poisoned = vd;
+    }
+
     -- a chain of blocks
     pub give-all : (n : ℕ) (bs list fs p : List ℕ) → room L T N ≤ length p → length bs ≤ n
         → ((c : ℕ) → times c bs + times c fs ≤ 1) → ((c : ℕ) → 0 < times c bs → c < N)
         → headerWord p 4 ≡ length fs → headerWord p 5 ≡ linkTo fs → Holds (L .ids) (L .poison) (blockWord L T p) fs []
         → Holds (L .ids) (L .poison) (blockWord L T p) bs list → Given L T N p (giveChain L T n (linkTo bs) p) bs fs
     unfolding giveChain
-    give-all zero [] list fs p l hn once below e4 e5 vd r = record {
-      within = within-none;
-      tiles = λ u hu i hi. refl;
-      blocks = λ b hb k hk. refl;
-      count = e4;
-      first = e5;
-      poisoned = vd;
-    }
-    give-all (suc n) [] list fs p l hn once below e4 e5 vd r = record {
-      within = within-none;
-      tiles = λ u hu i hi. refl;
-      blocks = λ b hb k hk. refl;
-      count = e4;
-      first = e5;
-      poisoned = vd;
-    }
+    give-all zero [] list fs p l hn once below e4 e5 vd r = given-none e4 e5 vd
+    give-all (suc n) [] list fs p l hn once below e4 e5 vd r = given-none e4 e5 vd
     give-all zero (b ∷ bs) list fs p l hn once below e4 e5 vd r = absurd (not-suc-le-zero hn)
     give-all (suc n) (b ∷ bs) list fs p l hn once below e4 e5 vd r =
         rw (r .0)

@@ -9,11 +9,13 @@ use borrow.Author.Tests.{eq-eqb}
 use lib.ListN.{length}
 use Rattle.pool.specs.Words.{edition, start, room, headerWord, tileWord, blockWord}
 use Rattle.pool.specs.State.{State, tileOf, linkTo, lastLink, one, times}
-use Rattle.pool.specs.Sound.{Shows, tilesOf, blocksOf}
+use Rattle.pool.specs.Sound.{Shows, Sound, tilesOf, blocksOf}
+use Rattle.pool.specs.Lists.{listOf}
 use Rattle.pool.proofs.Words.{edition-fair, row-within, header≤start, start≤room}
 use Rattle.pool.proofs.Times.{one-same, times-append}
 use Rattle.pool.proofs.Parts.{ceil-some}
 use Rattle.pool.proofs.Chain.{uncons, unsnoc, lastLink-snoc}
+use Rattle.pool.proofs.Lists.{listOf-shows}
 use Rattle.pool.proofs.State.{tile-block<, free-block<}
 use Rattle.pool.proofs.Total.{entries≤}
 use Rattle.lists.specs.Appending.{multiple, need}
@@ -23,6 +25,10 @@ use Rattle.lists.specs.Reach.{TileIn, BlockIn, Among, Roomy, Takeable}
 pub block-in : (T N : ℕ) (p : List ℕ) (b k : ℕ) → room edition T N ≤ length p → b < N → k ≤ edition .ids → BlockIn T p b k
 unfolding room
 block-in T N p b k long hb hk = let h : k < suc (edition .ids) = omega arith in omega (arith, row-within (suc (edition .ids)) h hb)
+
+-- the header lies in a sound pool
+pub header-in : {p : List ℕ} → Sound edition p → edition .header ≤ length p
+header-in {p} S = omega (arith, header≤start edition (tilesOf p), start≤room edition (tilesOf p) (blocksOf p), S .opened .long)
 
 module _ {p : List ℕ} {T t : ℕ} (G : Among p T t) where
   pub shown : Shows edition T (blocksOf p) p (G .sound .state)
@@ -35,11 +41,11 @@ module _ {p : List ℕ} {T t : ℕ} (G : Among p T t) where
   unfolding start
   tile-in {i} hi = omega (arith, row-within (edition .tile) hi (G .tile), start≤room edition T (blocksOf p), roomed)
 
-  pub header-in : edition .header ≤ length p
-  header-in = omega (arith, header≤start edition T, start≤room edition T (blocksOf p), roomed)
-
   pub entries-fit : tileWord edition p t 0 + 1 < 2 ^ 32
   entries-fit = omega (arith, shown .tile t (G .tile) .entries, entries≤ shown edition-fair t (G .tile), G .sound .opened .blocks≤)
+
+  pub entries-list : length (listOf edition T p t) ≡ tileWord edition p t 0
+  entries-list = ap length (listOf-shows edition-fair shown t (G .tile)) ∙ sym (shown .tile t (G .tile) .entries)
 
   -- a tile with entries has a last block
   pub last-reach : tileWord edition p t 0 ≢ 0 → (0 < tileWord edition p t 2) × BlockIn T p (tileWord edition p t 2 - 1) (edition .ids)

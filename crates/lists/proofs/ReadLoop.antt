@@ -42,6 +42,7 @@ reading-start {p} {T} {t} G place h =
     let R = shown G in
     let k = R .tile t (G .tile) in
     let x = tileOf (G .sound .state) t in
+    let e = listOf-shows edition-fair R t (G .tile) in
     record {
       blocks = x .blocks;
       list = x .list;
@@ -51,7 +52,7 @@ reading-start {p} {T} {t} G place h =
       inside = omega (arith, k .entries);
       long = roomed G;
       below = tile-block< R t;
-      value = ap (λ (l : List ℕ). getD l place 0) (sym (listOf-shows edition-fair R t (G .tile)));
+      value = ap (λ (l : List ℕ). getD l place 0) (sym e);
     }
 
 module _ {T N : ℕ} {p : List ℕ} {link left v : ℕ} (G : Reading T N p link left v) where

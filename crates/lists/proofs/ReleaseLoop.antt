@@ -2,10 +2,10 @@
 use mathlib.Core.Path.{_≡_, refl, sym, ap, _∙_}
 use mathlib.Core.Logic.{_≢_}
 use mathlib.Core.List.{List, [], _∷_}
-use Prim.Native.Nat.{ℕ, zero, suc, _+_, _-_, _^_, _≤_, _<_}
+use Prim.Native.Nat.{ℕ, zero, suc, _+_, _*_, _-_, _^_, _≤_, _<_}
 use native.Mathlib.Nat.{not-suc-le-zero}
 use native.Mathlib.Omega.{arith}
-use lib.ListN.{length, drop}
+use lib.ListN.{length, drop, set}
 use Rattle.numbers.specs.Ceil.{ceil}
 use Rattle.pool.specs.Words.{edition, room, headerWord, tileWord, blockWord, tileSet}
 use Rattle.pool.specs.State.{State, tileOf, linkTo, times, Holds}
@@ -137,8 +137,10 @@ giving-end {T} {N} {p} {link} {given} {e} {m} G l = go (G .n) (G .blocks) (G .li
     go (suc n) [] w ends c = (ends, omega arith)
     go n (b ∷ bs) w ends c = absurd (omega arith)
 
--- the stores at the end
-pub release-stores : (T : ℕ) (p : List ℕ) (t : ℕ) (g q₀ q₁ q₂ : List ℕ) → g ≡ giveChain edition T (tileWord edition p t 0) (tileWord edition p t 1) p
-    → q₀ ≡ tileSet edition g t 0 0 → q₁ ≡ tileSet edition q₀ t 1 0 → q₂ ≡ tileSet edition q₁ t 2 0 → q₂ ≡ release edition T p t
-unfolding release
-release-stores T p t g q₀ q₁ q₂ e a b c = rw (c, b, a, e)
+-- the stores at the end, at the places i, j and k
+pub release-stores : (T : ℕ) (p : List ℕ) (t : ℕ) (g : List ℕ) (i j k : ℕ)
+    → g ≡ giveChain edition T (tileWord edition p t 0) (tileWord edition p t 1) p
+    → i ≡ edition .header + edition .tile * t + 0 → j ≡ edition .header + edition .tile * t + 1 → k ≡ edition .header + edition .tile * t + 2
+    → set (set (set g i 0) j 0) k 0 ≡ release edition T p t
+unfolding release tileSet
+release-stores T p t g i j k e a b c = rw (a, b, c, e)

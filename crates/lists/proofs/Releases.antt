@@ -24,7 +24,7 @@ use Rattle.lists.specs.Steps.{onto, releaseState}
 use Rattle.lists.specs.Promises.{Kept, Released}
 use Rattle.lists.proofs.Within.{Within, within-then, within-tile}
 use Rattle.lists.proofs.Gives.{Given, give-all, times-onto, length-onto}
-use Rattle.lists.proofs.Several.{sound-with}
+use Rattle.lists.proofs.Several.{kept-keeps, sound-with}
 
 module _ {L : Layout} {T N : ℕ} {p : List ℕ} {s : State} (A : Fair L) (R : Shows L T N p s) (long : room L T N ≤ length p) (t : ℕ) (ht : t < T) where
   -- the chain of the tile, given back
@@ -91,9 +91,9 @@ release-releases {L} {p} A S t ht =
     let ht′ : t < length (s .tiles) = rw (R .tiled) ht in
     let before : (u : ℕ) → u < tilesOf p → listOf L (tilesOf p) p u ≡ tileOf s u .list = listOf-shows A R in
     let after : (u : ℕ) → u < tilesOf p → listOf L (tilesOf p) (release L (tilesOf p) p t) u ≡ tileOf (releaseState s t) u .list = listOf-shows A (I .0) in
-    let many : length (x .blocks) ≡ ceil (tileWord L p t 0) (L .ids) = k .many ∙ ap (λ (n : ℕ). ceil n (L .ids)) (sym (k .entries)) in
+    let many : length (x .blocks) ≡ ceil (length (listOf L (tilesOf p) p t)) (L .ids) = k .many ∙ ap (λ (l : List ℕ). ceil (length l) (L .ids)) (sym (before t ht)) in
     record {
-      sound = sound-with A S (record { long = K .long; fixed = K .header }) (releaseState s t) (I .0);
+      sound = sound-with A S (kept-keeps K) (releaseState s t) (I .0);
       says = refl;
       emptied = after t ht ∙ ap (λ (y : Chained). y .list) (getD-set-same (s .tiles) t empty empty ht′);
       others = λ u hu ne. after u hu ∙ ap (λ (y : Chained). y .list) (getD-set-other (s .tiles) t u empty empty ne) ∙ sym (before u hu);
@@ -106,13 +106,14 @@ release-releases {L} {p} A S t ht =
 pub release-keeps-sound : {L : Layout} {p : List ℕ} → Fair L → Sound L p → (t : ℕ) → t < tilesOf p → Sound L (release L (tilesOf p) p t)
 release-keeps-sound A S t ht = release-releases A S t ht .sound
 
--- a tile without entries has no blocks, so that nothing is given back and zeros are put over zeros
-pub release-empty : {L : Layout} {p : List ℕ} → Fair L → Sound L p → (t : ℕ) → t < tilesOf p → tileWord L p t 0 ≡ 0 → release L (tilesOf p) p t ≡ p
+-- an empty tile has no blocks, so that nothing is given back and zeros are put over zeros
+pub release-empty : {L : Layout} {p : List ℕ} → Fair L → Sound L p → (t : ℕ) → t < tilesOf p → listOf L (tilesOf p) p t ≡ [] → release L (tilesOf p) p t ≡ p
 unfolding release giveChain tileSet tileWord
-release-empty {L} {p} A S t ht z =
+release-empty {L} {p} A S t ht empties =
     let x = tileOf (S .state) t in
     let k = S .shows .tile t ht in
-    let none : x .list ≡ [] = nil-of (x .list) (sym (k .entries) ∙ z) in
+    let none : x .list ≡ [] = sym (listOf-shows A (S .shows) t ht) ∙ empties in
+    let z : tileWord L p t 0 ≡ 0 = k .entries ∙ ap length none in
     let nb : x .blocks ≡ [] = nil-of (x .blocks) (k .many ∙ rw none (ceil-none (L .ids) (A .ids>))) in
     let e1 : tileWord L p t 1 ≡ 0 = k .first ∙ ap linkTo nb in
     let e2 : tileWord L p t 2 ≡ 0 = k .last ∙ ap (lastLink 0) nb in

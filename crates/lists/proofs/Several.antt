@@ -17,7 +17,7 @@ use Rattle.lists.specs.Steps.{appendState, appendAllState, needState}
 use Rattle.lists.specs.Promises.{Kept, Appended}
 use Rattle.lists.proofs.Within.{Within, within-none, within-then}
 use Rattle.lists.proofs.Appends.{Step, append-step}
-use Rattle.lists.proofs.Counts.{append-other, append-free, append-frees-none, append-all-other, append-all-list, append-all-frees-none, distinct-first, distinct-rest, need-other, need-shows}
+use Rattle.lists.proofs.Counts.{append-other, append-free, append-frees-none, append-all-other, append-all-list, append-all-frees-none, distinct-one, distinct-first, distinct-rest, need-other, need-shows}
 
 -- the pool q, which keeps the fixed words of the sound pool p, is sound with the state that it shows
 abbrev pub sound-with : {L : Layout} {p q : List ℕ} → Fair L → Sound L p → Keeps L p q → (r : State) → Shows L (tilesOf p) (blocksOf p) q r → Sound L q
@@ -27,6 +27,10 @@ sound-with {L} {p} {q} A S K r R = record {
   shows = subst (λ (T : ℕ). Shows L T (blocksOf q) q r) (sym (keeps-tiles A K))
       (subst (λ (N : ℕ). Shows L (tilesOf p) N q r) (sym (keeps-blocks A K)) R);
 }
+
+-- what is kept has the fixed words of the header, and so the screen, the tiles and the blocks
+pub kept-keeps : {L : Layout} {T N : ℕ} {p q : List ℕ} {s r : State} {ts : List ℕ} → Kept L T N p q s r ts → Keeps L p q
+kept-keeps K = record { long = K .long; fixed = K .header }
 
 module _ {L : Layout} {T N : ℕ} (A : Fair L) (id : ℕ) (hid : id < L .limit) where
   -- what is shown, what stays, and what is left of the free chain
@@ -85,7 +89,7 @@ append-all-appends {L} {p} A S ts id D hid enough =
     let before : (u : ℕ) → u < tilesOf p → listOf L (tilesOf p) p u ≡ tileOf s u .list = listOf-shows A R in
     let after : (u : ℕ) → u < tilesOf p → listOf L (tilesOf p) (appendAll L (tilesOf p) p ts id) u ≡ tileOf r u .list = listOf-shows A (I .0) in
     record {
-      sound = sound-with A S (record { long = K .long; fixed = K .header }) r (I .0);
+      sound = sound-with A S (kept-keeps K) r (I .0);
       says = refl;
       gains = λ t h. after t (D .below t h) ∙ append-all-list (L .ids) s ts id t D′ h ∙ sym (ap (λ (l : List ℕ). l ++ (id ∷ [])) (before t (D .below t h)));
       others = λ u hu z. after u hu ∙ ap (λ (x : Chained). x .list) (append-all-other (L .ids) s ts id u z) ∙ sym (before u hu);
@@ -96,3 +100,9 @@ append-all-appends {L} {p} A S ts id D hid enough =
 pub append-all-keeps-sound : {L : Layout} {p : List ℕ} → Fair L → Sound L p → (ts : List ℕ) (id : ℕ) → Distinct (tilesOf p) ts → id < L .limit
     → need L p ts ≤ headerWord p 4 → Sound L (appendAll L (tilesOf p) p ts id)
 append-all-keeps-sound A S ts id D hid enough = append-all-appends A S ts id D hid enough .sound
+
+-- for one tile
+pub append-keeps-sound : {L : Layout} {p : List ℕ} → Fair L → Sound L p → (t id : ℕ) → t < tilesOf p → id < L .limit → need L p (t ∷ []) ≤ headerWord p 4
+    → Sound L (append L (tilesOf p) p t id)
+unfolding appendAll
+append-keeps-sound A S t id ht hid enough = append-all-keeps-sound A S (t ∷ []) id (distinct-one ht) hid enough

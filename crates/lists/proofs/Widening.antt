@@ -26,7 +26,7 @@ use Rattle.lists.specs.Releasing.{release}
 use Rattle.lists.specs.Steps.{headOr, tail, onto, inNew, inLast, appendState, appendAllState, needState, releaseState}
 use Rattle.lists.specs.Wider.{widen, Wider}
 use Rattle.lists.proofs.Counts.{append-free, need-other, need-shows, distinct-first, distinct-rest}
-use Rattle.lists.proofs.Several.{append-all-shows}
+use Rattle.lists.proofs.Several.{kept-keeps, append-all-shows}
 use Rattle.lists.proofs.Releases.{release-shows}
 
 -- ---- the steps do not see the blocks at the end of the free chain
@@ -103,8 +103,8 @@ module _ {L : Layout} {n : ℕ} {p w : List ℕ} {s : State} (A : Fair L) (W : W
   }
 
   -- all lists agree, and with them the entries and the blocks that a list of tiles needs
-  pub wider-lists : (t : ℕ) → t < tilesOf p → listOf L (tilesOf p) w t ≡ listOf L (tilesOf p) p t
-  wider-lists t ht = listOf-shows A (W .shows′) t ht ∙ sym (listOf-shows A (W .shows) t ht)
+  pub wider-lists : (t : ℕ) → t < tilesOf p → listOf L (tilesOf w) w t ≡ listOf L (tilesOf p) p t
+  wider-lists t ht = ap (λ (T : ℕ). listOf L T w t) wider-tiles ∙ listOf-shows A (W .shows′) t ht ∙ sym (listOf-shows A (W .shows) t ht)
 
   pub wider-entries : (t : ℕ) → t < tilesOf p → tileWord L w t 0 ≡ tileWord L p t 0
   wider-entries t ht = W .shows′ .tile t ht .entries ∙ sym (W .shows .tile t ht .entries)
@@ -118,10 +118,11 @@ module _ {L : Layout} {n : ℕ} {p w : List ℕ} {s : State} (A : Fair L) (W : W
   wider-free = omega (arith, W .shows .count, W .shows′ .count, length-append (s .free) (rising (blocksOf p) n), length-rising (blocksOf p) n)
 
   -- the id places of its further blocks hold poison
-  pub wider-poison : (b : ℕ) → blocksOf p ≤ b → b < blocksOf p + n → (k : ℕ) → k < L .ids → blockWord L (tilesOf p) w b k ≡ L .poison
-  wider-poison b lo hi =
-      holds-nothing (L .ids) (L .poison) (blockWord L (tilesOf p) w) (s .free ++ rising (blocksOf p) n) b
-      (omega (arith, times-append b (s .free) (rising (blocksOf p) n), times-rising b (blocksOf p) n lo hi)) (W .shows′ .poisoned)
+  pub wider-poison : (b : ℕ) → blocksOf p ≤ b → b < blocksOf p + n → (k : ℕ) → k < L .ids → blockWord L (tilesOf w) w b k ≡ L .poison
+  wider-poison b lo hi k hk =
+      ap (λ (T : ℕ). blockWord L T w b k) wider-tiles
+      ∙ holds-nothing (L .ids) (L .poison) (blockWord L (tilesOf p) w) (s .free ++ rising (blocksOf p) n) b
+      (omega (arith, times-append b (s .free) (rising (blocksOf p) n), times-rising b (blocksOf p) n lo hi)) (W .shows′ .poisoned) k hk
 
   room′ : room L (tilesOf p) (blocksOf p + n) ≤ length w
   room′ = subst (λ (k : ℕ). k ≤ length w) (λ i. room L (wider-tiles i) (W .blocks i)) (W .opened′ .long)
@@ -141,24 +142,26 @@ module _ {L : Layout} {n : ℕ} {p w : List ℕ} {s : State} (A : Fair L) (W : W
   }
 
   pub wider-append-all : (ts : List ℕ) (id : ℕ) → Distinct (tilesOf p) ts → id < L .limit → need L p ts ≤ headerWord p 4
-      → Wider L n (appendAll L (tilesOf p) p ts id) (appendAll L (tilesOf p) w ts id) (appendAllState (L .ids) s ts id)
+      → Wider L n (appendAll L (tilesOf p) p ts id) (appendAll L (tilesOf w) w ts id) (appendAllState (L .ids) s ts id)
   wider-append-all ts id D hid enough =
       let N = blocksOf p in
       let fits : needState (L .ids) s ts ≤ length (s .free) = omega (arith, need-shows (W .shows) ts (D .below), W .shows .count) in
       let I = append-all-shows A id hid ts (W .shows) (W .opened .long) D fits in
       let J = append-all-shows A id hid ts (W .shows′) room′ D
       (omega (arith, widen-need (L .ids) N n s ts, length-append (s .free) (rising N n))) in
-      wider-with (record { long = I .1 .long; fixed = I .1 .header }) (record { long = J .1 .long; fixed = J .1 .header })
+      subst (λ (T : ℕ). Wider L n (appendAll L (tilesOf p) p ts id) (appendAll L T w ts id) (appendAllState (L .ids) s ts id)) (sym wider-tiles)
+      (wider-with (kept-keeps (I .1)) (kept-keeps (J .1))
       (appendAllState (L .ids) s ts id) (I .0)
-      (subst (λ (r : State). Shows L (tilesOf p) (N + n) (appendAll L (tilesOf p) w ts id) r) (widen-append-all (L .ids) (tilesOf p) N n s ts id D fits) (J .0))
+      (subst (λ (r : State). Shows L (tilesOf p) (N + n) (appendAll L (tilesOf p) w ts id) r) (widen-append-all (L .ids) (tilesOf p) N n s ts id D fits) (J .0)))
 
-  pub wider-release : (t : ℕ) → t < tilesOf p → Wider L n (release L (tilesOf p) p t) (release L (tilesOf p) w t) (releaseState s t)
+  pub wider-release : (t : ℕ) → t < tilesOf p → Wider L n (release L (tilesOf p) p t) (release L (tilesOf w) w t) (releaseState s t)
   wider-release t ht =
       let N = blocksOf p in
       let I = release-shows A (W .shows) (W .opened .long) t ht in
       let J = release-shows A (W .shows′) room′ t ht in
-      wider-with (record { long = I .1 .long; fixed = I .1 .header }) (record { long = J .1 .long; fixed = J .1 .header }) (releaseState s t) (I .0)
-      (subst (λ (r : State). Shows L (tilesOf p) (N + n) (release L (tilesOf p) w t) r) (widen-release N n s t) (J .0))
+      subst (λ (T : ℕ). Wider L n (release L (tilesOf p) p t) (release L T w t) (releaseState s t)) (sym wider-tiles)
+      (wider-with (kept-keeps (I .1)) (kept-keeps (J .1)) (releaseState s t) (I .0)
+      (subst (λ (r : State). Shows L (tilesOf p) (N + n) (release L (tilesOf p) w t) r) (widen-release N n s t) (J .0)))
 
 -- two openings for one screen, the second with n blocks more
 pub wider-opening : {L : Layout} (A : Fair L) (d : Screen) (N n : ℕ) (p w : List ℕ) → ((M : ℕ) → length (headerFor L d M) ≡ L .header) → Allowed d → N + n ≤ 2048

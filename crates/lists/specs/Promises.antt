@@ -40,6 +40,6 @@ pub record Released (L : Layout) (p : List ℕ) (S : Sound L p) (q : List ℕ) (
   pub says : sound .state ≡ releaseState (S .state) t
   pub emptied : listOf L (tilesOf p) q t ≡ []
   pub others : (u : ℕ) → u < tilesOf p → u ≢ t → listOf L (tilesOf p) q u ≡ listOf L (tilesOf p) p u
-  pub given : headerWord q 4 ≡ headerWord p 4 + ceil (tileWord L p t 0) (L .ids)
+  pub given : headerWord q 4 ≡ headerWord p 4 + ceil (length (listOf L (tilesOf p) p t)) (L .ids)
   pub poisoned : (b : ℕ) → 0 < times b (tileOf (S .state) t .blocks) → (k : ℕ) → k < L .ids → blockWord L (tilesOf p) q b k ≡ L .poison
   pub kept : Kept L (tilesOf p) (blocksOf p) p q (S .state) (sound .state) (t ∷ [])

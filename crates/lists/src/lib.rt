@@ -5,7 +5,7 @@ ghost use mathlib.Core.List.{[], _∷_};
 ghost use Prim.Native.Nat.{_+_, _*_, _^_, _≤_, _<_, suc};
 ghost use lib.ListN.{length, take, getD};
 ghost use Rattle.numbers.specs.Ceil.{ceil};
-ghost use Rattle.pool.specs.Words.{edition, start, headerWord, tileWord, blockWord, headerSet, tileSet, blockSet};
+ghost use Rattle.pool.specs.Words.{edition, start, headerWord, tileWord, blockWord};
 ghost use Rattle.pool.specs.Sound.{Sound};
 ghost use Rattle.pool.specs.Lists.{listOf};
 ghost use Rattle.lists.specs.Appending.{need, append, appendIn, takeHead, takeBlock, appendAll};
@@ -35,22 +35,6 @@ const LAST: usize = 2;
 // The link of a block comes after its ids.
 const LINK: usize = BLOCK_IDS;
 
-// Word k of the header.
-fn header_word(pool: &[u32], k: usize) -> u32
-    requires { ⌜ k < length (now pool) ⌝ }
-    ensures { λ r. ⌜ r ≡ headerWord (now (pool .entry)) k ⌝ }
-{
-    pool[k]
-}
-
-// Puts a value in word k of the header.
-fn set_header_word(pool: &mut [u32], k: usize, value: u32)
-    requires { ⌜ k < length (now pool) ⌝ }
-    ensures { λ r. ⌜ now (pool .exit) ≡ headerSet (now (pool .entry)) k value ⌝ }
-{
-    pool[k] = value;
-}
-
 // Where word i of a tile stands.
 fn tile_index(tile: Tile, i: usize) -> usize
     requires { ⌜ edition .header + edition .tile * tile .0 + i < 2 ^ 64 ⌝ }
@@ -75,14 +59,6 @@ fn tile_word(pool: &[u32], tile: Tile, i: usize) -> u32
     pool[tile_index(tile, i)]
 }
 
-// Puts a value in word i of a tile.
-fn set_tile_word(pool: &mut [u32], tile: Tile, i: usize, value: u32)
-    requires { ⌜ TileIn (now pool) (tile .0) i ⌝ }
-    ensures { λ r. ⌜ now (pool .exit) ≡ tileSet edition (now (pool .entry)) (tile .0) i value ⌝ }
-{
-    pool[tile_index(tile, i)] = value;
-}
-
 // Word k of a block.
 fn block_word(pool: &[u32], tiles: usize, block: Block, k: usize) -> u32
     requires { ⌜ BlockIn tiles (now pool) (block .0) k ⌝ }
@@ -91,20 +67,12 @@ fn block_word(pool: &[u32], tiles: usize, block: Block, k: usize) -> u32
     pool[block_index(tiles, block, k)]
 }
 
-// Puts a value in word k of a block.
-fn set_block_word(pool: &mut [u32], tiles: usize, block: Block, k: usize, value: u32)
-    requires { ⌜ BlockIn tiles (now pool) (block .0) k ⌝ }
-    ensures { λ r. ⌜ now (pool .exit) ≡ blockSet edition tiles (now (pool .entry)) (block .0) k value ⌝ }
-{
-    pool[block_index(tiles, block, k)] = value;
-}
-
 // How many blocks are free.
 pub fn free(pool: &[u32]) -> u32
     requires { ⌜ Sound edition (now pool) ⌝ }
     ensures { λ r. ⌜ r ≡ headerWord (now (pool .entry)) 4 ⌝ }
 {
-    header_word(pool, FREE)
+    pool[FREE]
 }
 
 // How many entries a tile's list has.
@@ -140,8 +108,8 @@ fn put_in_last(pool: &mut [u32], tiles: usize, tile: Tile, id: u32)
 {
     let entries = tile_word(pool, tile, ENTRIES);
     let last = tile_word(pool, tile, LAST);
-    set_block_word(pool, tiles, Block(last - 1), wide(entries) % BLOCK_IDS, id);
-    set_tile_word(pool, tile, ENTRIES, entries + 1);
+    pool[block_index(tiles, Block(last - 1), wide(entries) % BLOCK_IDS)] = id;
+    pool[tile_index(tile, ENTRIES)] = entries + 1;
 }
 
 // A block, the head of the free chain, leaves it.
@@ -149,11 +117,11 @@ fn take_head(pool: &mut [u32], tiles: usize, block: Block)
     requires { ⌜ BlockIn tiles (now pool) (block .0) (edition .ids) × (0 < headerWord (now pool) 4) ⌝ }
     ensures { λ r. ⌜ now (pool .exit) ≡ takeHead edition tiles (now (pool .entry)) (block .0) ⌝ }
 {
-    let free = header_word(pool, FREE);
-    let next = block_word(pool, tiles, block, LINK);
-    set_header_word(pool, FIRST_FREE, next);
-    set_header_word(pool, FREE, free - 1);
-    set_block_word(pool, tiles, block, LINK, 0);
+    let link = block_index(tiles, block, LINK);
+    let free = pool[FREE];
+    pool[FIRST_FREE] = pool[link];
+    pool[FREE] = free - 1;
+    pool[link] = 0;
 }
 
 // The head of the free chain is taken for a tile, with one id in it.
@@ -163,9 +131,9 @@ fn take_block(pool: &mut [u32], tiles: usize, tile: Tile, block: Block, id: u32)
 {
     let entries = tile_word(pool, tile, ENTRIES);
     take_head(pool, tiles, block);
-    set_block_word(pool, tiles, block, 0, id);
-    set_tile_word(pool, tile, LAST, block.0 + 1);
-    set_tile_word(pool, tile, ENTRIES, entries + 1);
+    pool[block_index(tiles, block, 0)] = id;
+    pool[tile_index(tile, LAST)] = block.0 + 1;
+    pool[tile_index(tile, ENTRIES)] = entries + 1;
 }
 
 // One id more at the end of a tile's list, where there is a free block if it takes one.
@@ -179,13 +147,13 @@ pub fn append(pool: &mut [u32], tiles: usize, tile: Tile, id: u32)
         put_in_last(pool, tiles, tile, id);
         return;
     }
-    let head = header_word(pool, FIRST_FREE);
+    let head = pool[FIRST_FREE];
     let last = tile_word(pool, tile, LAST);
     take_block(pool, tiles, tile, Block(head - 1), id);
     if entries == 0 {
-        set_tile_word(pool, tile, FIRST, head);
+        pool[tile_index(tile, FIRST)] = head;
     } else {
-        set_block_word(pool, tiles, Block(last - 1), LINK, head);
+        pool[block_index(tiles, Block(last - 1), LINK)] = head;
     }
 }
 
@@ -208,7 +176,7 @@ fn poison(pool: &mut [u32], tiles: usize, block: Block)
 {
     let mut k = 0;
     while k < BLOCK_IDS {
-        set_block_word(pool, tiles, block, k, POISON);
+        pool[block_index(tiles, block, k)] = POISON;
         k += 1;
     }
 }
@@ -218,12 +186,12 @@ fn give_block(pool: &mut [u32], tiles: usize, block: Block)
     requires { ⌜ Givable (now pool) tiles (block .0) ⌝ }
     ensures { λ r. ⌜ now (pool .exit) ≡ giveBlock edition tiles (now (pool .entry)) (block .0) ⌝ }
 {
-    let head = header_word(pool, FIRST_FREE);
-    let free = header_word(pool, FREE);
+    let head = pool[FIRST_FREE];
+    let free = pool[FREE];
     poison(pool, tiles, block);
-    set_block_word(pool, tiles, block, LINK, head);
-    set_header_word(pool, FIRST_FREE, block.0 + 1);
-    set_header_word(pool, FREE, free + 1);
+    pool[block_index(tiles, block, LINK)] = head;
+    pool[FIRST_FREE] = block.0 + 1;
+    pool[FREE] = free + 1;
 }
 
 // A tile's blocks go back to the free chain, in the order of its chain; the tile is empty. Answers how many blocks these were.
@@ -240,9 +208,9 @@ pub fn release(pool: &mut [u32], tiles: usize, tile: Tile) -> u32
         give_block(pool, tiles, block);
         given += 1;
     }
-    set_tile_word(pool, tile, ENTRIES, 0);
-    set_tile_word(pool, tile, FIRST, 0);
-    set_tile_word(pool, tile, LAST, 0);
+    pool[tile_index(tile, ENTRIES)] = 0;
+    pool[tile_index(tile, FIRST)] = 0;
+    pool[tile_index(tile, LAST)] = 0;
     given
 }
 

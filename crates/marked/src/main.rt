@@ -1,6 +1,8 @@
 // Runs the twelve marked cases through bin and through the two questions about touching, each on a freshly opened pool of the screen 64 by 32 with
-// s = 4, and then the case of the screen 60 by 32. Writes a line for each: the tiles listed, those by corner and those by box.
+// s = 4, then the case of the screen 60 by 32, and then the pool case to its end. Writes for each marked case the tiles listed, those by corner and those by
+// box.
 use calls::Answered;
+use calls::Found;
 use libc::STDOUT_FILENO;
 use screen::Screen;
 use screen::Tile;
@@ -27,29 +29,40 @@ fn write_tile(answer: Answered, t: u32) {
     }
 }
 
-// The tiles that the shape touches, by corner and by box.
-fn write_touched(screen: Screen, shape: Shape) {
-    write(b"; corner");
-    for t in 0..8 {
+// The tiles that the shape touches, by corner.
+fn write_by_corner(screen: Screen, shape: Shape) {
+    let mut t = 0;
+    while t < 8 {
         write_tile(calls::corner_touches(screen, Tile(t), shape), t);
+        t += 1;
     }
-    write(b"; box");
-    for t in 0..8 {
+}
+
+// The tiles that the shape touches, by box.
+fn write_by_box(screen: Screen, shape: Shape) {
+    let mut t = 0;
+    while t < 8 {
         write_tile(calls::box_touches(screen, Tile(t), shape), t);
+        t += 1;
     }
-    write(b"\n");
+}
+
+// The tile's number, where its list begins with the id 7.
+fn write_found(found: Found, t: u32) {
+    if found.number == 0 {
+        if found.id == 7 {
+            write(b" ");
+            write_number(t);
+        }
+    }
 }
 
 // The tiles whose lists begin with the id 7.
 fn write_listed(pool: &[u32]) {
-    for t in 0..8 {
-        let found = calls::read(pool, Tile(t), 0);
-        if found.number == 0 {
-            if found.id == 7 {
-                write(b" ");
-                write_number(t);
-            }
-        }
+    let mut t = 0;
+    while t < 8 {
+        write_found(calls::read(pool, Tile(t), 0), t);
+        t += 1;
     }
 }
 
@@ -74,7 +87,101 @@ fn run(name: &[u8], width: u32, shape: Shape) {
     write_number(binned.blocks);
     write(b"; listed");
     write_listed(pool);
-    write_touched(screen, shape);
+    write(b"; corner");
+    write_by_corner(screen, shape);
+    write(b"; box");
+    write_by_box(screen, shape);
+    write(b"\n");
+}
+
+// A word of a pool, and 0 past its end.
+fn word(pool: &[u32], i: usize) -> u32 {
+    if i < pool.len() { pool[i] } else { 0 }
+}
+
+// The eight words of the header.
+fn write_header(pool: &[u32]) {
+    write(b"header");
+    let mut k = 0;
+    while k < 8 {
+        write(b" ");
+        write_number(word(pool, k));
+        k += 1;
+    }
+    write(b"\n");
+}
+
+fn write_bin(pool: &mut [u32], name: &[u8], shape: Shape, id: u32) {
+    let binned = calls::bin(pool, shape, id);
+    write(name);
+    write(b": bin ");
+    write_number(binned.number);
+    write(b", tiles ");
+    write_number(binned.tiles);
+    write(b", blocks ");
+    write_number(binned.blocks);
+    write(b"\n");
+}
+
+// Whether two pools have the same words.
+fn same(pool: &[u32], other: &[u32]) -> bool {
+    if pool.len() != other.len() {
+        return false;
+    }
+    let mut i = 0;
+    while i < pool.len() {
+        if word(pool, i) != word(other, i) {
+            return false;
+        }
+        i += 1;
+    }
+    true
+}
+
+fn write_same(pool: &[u32], other: &[u32], name: &[u8]) {
+    if same(pool, other) {
+        write(b"every word as ");
+    } else {
+        write(b"some word not as ");
+    }
+    write(name);
+    write(b"\n");
+}
+
+// The pool case: two blocks, a bin that takes one, a bin that needs three, and a release.
+fn pool_case() {
+    let screen = Screen {
+        width: 64,
+        height: 32,
+        s: 4,
+    };
+    let mut first = [0u32; 96];
+    let mut second = [0u32; 96];
+    let mut third = [0u32; 96];
+    let opened: &mut [u32] = &mut first;
+    let before: &mut [u32] = &mut second;
+    let pool: &mut [u32] = &mut third;
+    calls::open(opened, screen, 2);
+    calls::open(before, screen, 2);
+    calls::open(pool, screen, 2);
+    write_header(pool);
+    write_bin(pool, b"id 7 at (0, 0)", Shape::Point(at(0, 0)), 7);
+    write_bin(
+        before,
+        b"the same in another pool",
+        Shape::Point(at(0, 0)),
+        7,
+    );
+    write_header(pool);
+    write_bin(pool, b"id 9 at (256, 256)", Shape::Point(at(256, 256)), 9);
+    write_same(pool, before, b"before");
+    let released = calls::release(pool, Tile(0));
+    write(b"release of tile 0: ");
+    write_number(released.number);
+    write(b", blocks ");
+    write_number(released.blocks);
+    write(b"\n");
+    write_same(pool, opened, b"opened");
 }
 
 fn main() {
@@ -111,4 +218,5 @@ fn main() {
         Shape::Triangle(at(-1000, -1000), at(5000, -1000), at(-1000, 5000)),
     );
     run(b"60 by 32", 60, Shape::Point(at(1000, 10)));
+    pool_case();
 }

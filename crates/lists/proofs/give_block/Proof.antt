@@ -1,51 +1,63 @@
 -- `give_block`: its stores are those of `giveBlock`.
+use native.Mathlib.Omega.{arith}
+use lib.ListN.{length-set}
+use Rattle.pool.specs.Words.{headerWord, headerSet, blockSet}
 use Rattle.lists.specs.Releasing.{giveBlock}
 use borrow.Author.Needs.{needs}
 use Rattle.lists.proofs.give_block.Statement.{statement}
 use Rattle.lists.proofs.give_block.Tie as tie
 
-header-word-requires : tie.Need-header-word-requires
-header-word-requires c κs = search needs
+slice-read-head : tie.Need-slice-read-head
+slice-read-head c = search needs
 
-header-word-requires-2 : tie.Need-header-word-requires-2
-header-word-requires-2 c κs = search needs
+slice-read-free : tie.Need-slice-read-free
+slice-read-free c = search needs
 
 poison-requires : tie.Need-poison-requires
 poison-requires c κs = search needs
 
-set-block-word-requires : tie.Need-set-block-word-requires
-set-block-word-requires c κs = search needs
+block-index-requires : tie.Need-block-index-requires
+block-index-requires c κs = search needs
 
-add-set-header-word : tie.Need-add-set-header-word
-add-set-header-word c = search needs
+mul-pool : tie.Need-mul-pool
+mul-pool c = search needs
 
-set-header-word-requires : tie.Need-set-header-word-requires
-set-header-word-requires c κs = search needs
+slice-write-pool : tie.Need-slice-write-pool
+slice-write-pool c = search needs
 
-add-set-header-word-2 : tie.Need-add-set-header-word-2
-add-set-header-word-2 c = search needs
+add-pool : tie.Need-add-pool
+add-pool c = search needs
 
-set-header-word-requires-2 : tie.Need-set-header-word-requires-2
-set-header-word-requires-2 c κs = search needs
+slice-write-pool-2 : tie.Need-slice-write-pool-2
+slice-write-pool-2 c = simp length-set (omega arith)
+
+add-pool-2 : tie.Need-add-pool-2
+unfolding headerWord
+add-pool-2 c = omega arith
+
+slice-write-pool-3 : tie.Need-slice-write-pool-3
+slice-write-pool-3 c = simp length-set (omega arith)
 
 same-length : tie.Need-same-length
 same-length c = search needs
 
 returns : tie.Need-returns
-unfolding giveBlock
+unfolding giveBlock headerWord headerSet blockSet
 returns c = cc
 
 pub give-block-spec : {M : Type 1} → statement M
 give-block-spec =
     tie.close
     (tie.spec
-    header-word-requires
-    header-word-requires-2
+    slice-read-head
+    slice-read-free
     poison-requires
-    set-block-word-requires
-    add-set-header-word
-    set-header-word-requires
-    add-set-header-word-2
-    set-header-word-requires-2
+    block-index-requires
+    mul-pool
+    slice-write-pool
+    add-pool
+    slice-write-pool-2
+    add-pool-2
+    slice-write-pool-3
     same-length
     returns)

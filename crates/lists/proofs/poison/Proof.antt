@@ -1,11 +1,11 @@
 -- `poison`: after k turns the first k places of the block hold poison.
-use mathlib.Core.Path.{_≡_, refl, _∙_, ap}
+use mathlib.Core.Path.{_≡_, refl}
 use Prim.Native.Nat.{_≤_, _-_}
 use native.Mathlib.Numerals.{add-one}
 use native.Mathlib.Omega.{arith}
 use borrow.Author.Needs.{needs}
-use lib.ListN.{length}
-use Rattle.pool.specs.Words.{edition}
+use lib.ListN.{length, length-set}
+use Rattle.pool.specs.Words.{edition, blockSet}
 use Rattle.lists.specs.Releasing.{fill}
 use Rattle.lists.proofs.poison.Statement.{statement}
 use Rattle.lists.proofs.poison.Tie as tie
@@ -20,8 +20,14 @@ loop-holds : tie.Need-loop-holds Inv-loop μ-loop
 unfolding fill
 loop-holds c = (search needs, refl, refl)
 
-set-block-word-requires : tie.Need-set-block-word-requires Inv-loop μ-loop
-set-block-word-requires c κs = search needs
+block-index-requires : tie.Need-block-index-requires Inv-loop μ-loop
+block-index-requires c κs = search needs
+
+mul-pool : tie.Need-mul-pool Inv-loop μ-loop
+mul-pool c = search needs
+
+slice-write-pool : tie.Need-slice-write-pool Inv-loop μ-loop
+slice-write-pool c = search needs
 
 add-k : tie.Need-add-k Inv-loop μ-loop
 add-k c = search needs
@@ -30,8 +36,8 @@ loop-less : tie.Need-loop-less Inv-loop μ-loop
 loop-less c = search needs
 
 loop-again : tie.Need-loop-again Inv-loop μ-loop
-unfolding fill
-loop-again c = (search needs, search needs, rw (add-one) (cc))
+unfolding fill blockSet
+loop-again c = (search needs, simp length-set (c .before .before .loop .inv .1), rw add-one (cc))
 
 same-length : tie.Need-same-length Inv-loop μ-loop
 same-length c = search needs
@@ -46,7 +52,9 @@ poison-spec =
     Inv-loop
     μ-loop
     loop-holds
-    set-block-word-requires
+    block-index-requires
+    mul-pool
+    slice-write-pool
     add-k
     loop-less
     loop-again

@@ -1,4 +1,7 @@
 -- `put_in_last`: its two stores are those of `appendIn`.
+use native.Mathlib.Omega.{arith}
+use lib.ListN.{length-set}
+use Rattle.pool.specs.Words.{tileSet, blockSet}
 use Rattle.lists.specs.Appending.{appendIn}
 use borrow.Author.Needs.{needs}
 use Rattle.lists.proofs.put_in_last.Statement.{statement}
@@ -10,26 +13,38 @@ tile-word-requires c κs = search needs
 tile-word-requires-2 : tie.Need-tile-word-requires-2
 tile-word-requires-2 c κs = search needs
 
-sub-set-tile-word : tie.Need-sub-set-tile-word
-sub-set-tile-word c = search needs
+sub-pool : tie.Need-sub-pool
+sub-pool c = search needs
 
 wide-requires : tie.Need-wide-requires
 wide-requires c κs = search needs
 
-set-block-word-requires : tie.Need-set-block-word-requires
-set-block-word-requires c κs = search needs
+block-index-requires : tie.Need-block-index-requires
+block-index-requires c κs = search needs
 
-add-set-tile-word : tie.Need-add-set-tile-word
-add-set-tile-word c = search needs
+mul-pool : tie.Need-mul-pool
+mul-pool c = search needs
 
-set-tile-word-requires : tie.Need-set-tile-word-requires
-set-tile-word-requires c κs = search needs
+slice-write-pool : tie.Need-slice-write-pool
+slice-write-pool c = search needs
+
+add-pool : tie.Need-add-pool
+add-pool c = search needs
+
+tile-index-requires : tie.Need-tile-index-requires
+tile-index-requires c κs = search needs
+
+mul-pool-2 : tie.Need-mul-pool-2
+mul-pool-2 c = search needs
+
+slice-write-pool-2 : tie.Need-slice-write-pool-2
+slice-write-pool-2 c = simp length-set (omega arith)
 
 same-length : tie.Need-same-length
 same-length c = search needs
 
 returns : tie.Need-returns
-unfolding appendIn
+unfolding appendIn tileSet blockSet
 returns c = cc
 
 pub put-in-last-spec : {M : Type 1} → statement M
@@ -38,10 +53,14 @@ put-in-last-spec =
     (tie.spec
     tile-word-requires
     tile-word-requires-2
-    sub-set-tile-word
+    sub-pool
     wide-requires
-    set-block-word-requires
-    add-set-tile-word
-    set-tile-word-requires
+    block-index-requires
+    mul-pool
+    slice-write-pool
+    add-pool
+    tile-index-requires
+    mul-pool-2
+    slice-write-pool-2
     same-length
     returns)

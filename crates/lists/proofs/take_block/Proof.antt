@@ -1,4 +1,7 @@
 -- `take_block`: its stores are those of `takeBlock`.
+use native.Mathlib.Omega.{arith}
+use lib.ListN.{length-set}
+use Rattle.pool.specs.Words.{tileSet, blockSet}
 use Rattle.lists.specs.Appending.{takeBlock}
 use borrow.Author.Needs.{needs}
 use Rattle.lists.proofs.take_block.Statement.{statement}
@@ -10,26 +13,44 @@ tile-word-requires c κs = search needs
 take-head-requires : tie.Need-take-head-requires
 take-head-requires c κs = search needs
 
-set-block-word-requires : tie.Need-set-block-word-requires
-set-block-word-requires c κs = search needs
+block-index-requires : tie.Need-block-index-requires
+block-index-requires c κs = search needs
 
-add-set-tile-word : tie.Need-add-set-tile-word
-add-set-tile-word c = search needs
+mul-pool : tie.Need-mul-pool
+mul-pool c = search needs
 
-set-tile-word-requires : tie.Need-set-tile-word-requires
-set-tile-word-requires c κs = search needs
+slice-write-pool : tie.Need-slice-write-pool
+slice-write-pool c = search needs
 
-add-set-tile-word-2 : tie.Need-add-set-tile-word-2
-add-set-tile-word-2 c = search needs
+add-pool : tie.Need-add-pool
+add-pool c = search needs
 
-set-tile-word-requires-2 : tie.Need-set-tile-word-requires-2
-set-tile-word-requires-2 c κs = search needs
+tile-index-requires : tie.Need-tile-index-requires
+tile-index-requires c κs = search needs
+
+mul-pool-2 : tie.Need-mul-pool-2
+mul-pool-2 c = search needs
+
+slice-write-pool-2 : tie.Need-slice-write-pool-2
+slice-write-pool-2 c = simp length-set (omega arith)
+
+add-pool-2 : tie.Need-add-pool-2
+add-pool-2 c = search needs
+
+tile-index-requires-2 : tie.Need-tile-index-requires-2
+tile-index-requires-2 c κs = search needs
+
+mul-pool-3 : tie.Need-mul-pool-3
+mul-pool-3 c = search needs
+
+slice-write-pool-3 : tie.Need-slice-write-pool-3
+slice-write-pool-3 c = simp length-set (omega arith)
 
 same-length : tie.Need-same-length
 same-length c = search needs
 
 returns : tie.Need-returns
-unfolding takeBlock
+unfolding takeBlock tileSet blockSet
 returns c = cc
 
 pub take-block-spec : {M : Type 1} → statement M
@@ -38,10 +59,16 @@ take-block-spec =
     (tie.spec
     tile-word-requires
     take-head-requires
-    set-block-word-requires
-    add-set-tile-word
-    set-tile-word-requires
-    add-set-tile-word-2
-    set-tile-word-requires-2
+    block-index-requires
+    mul-pool
+    slice-write-pool
+    add-pool
+    tile-index-requires
+    mul-pool-2
+    slice-write-pool-2
+    add-pool-2
+    tile-index-requires-2
+    mul-pool-3
+    slice-write-pool-3
     same-length
     returns)

@@ -1,0 +1,39 @@
+-- The arguments and answers of the exported functions, as the public calls have them: a screen of three numbers, a shape of coordinates, and an answer of
+-- the number that is returned and the numbers that are written.
+use mathlib.Core.Path.{_≡_}
+use mathlib.Core.Bool.{cond}
+use Prim.Native.Nat.{ℕ}
+use lib.IntN.{ℤ}
+use lib.Ieee.{Float}
+use Rattle.screen.specs.declared.Screen.{Screen}
+use Rattle.shape.specs.declared.Vertex.{Vertex}
+use Rattle.snap.specs.declared.PixelVertex.{PixelVertex}
+use Rattle.calls.specs.declared.Binned.{Binned}
+use Rattle.calls.specs.declared.Released.{Released}
+use Rattle.calls.specs.declared.Found.{Found}
+use Rattle.calls.specs.declared.Answered.{Answered}
+
+abbrev pub screen : (width height s : ℕ) → Screen
+screen width height s = record { width = width; height = height; s = s }
+
+abbrev pub vertex : (x y : ℤ) → Vertex
+vertex x y = record { x = x; y = y }
+
+abbrev pub pixel : (x y : Float) → PixelVertex
+pixel x y = record { x = x; y = y }
+
+abbrev pub binned : (number tiles blocks : ℕ) → Binned
+binned number tiles blocks = record { number = number; tiles = tiles; blocks = blocks }
+
+abbrev pub released : (number blocks : ℕ) → Released
+released number blocks = record { number = number; blocks = blocks }
+
+abbrev pub found : (number id : ℕ) → Found
+found number id = record { number = number; id = id }
+
+-- an answer with this number, whose yes is written as 1 and whose no as 0, is one that Says allows
+pub record Told (Says : Answered → Type 0) (number touches : ℕ) : Type 0 where
+  pub answer : Answered
+  pub says : Says answer
+  pub number-is : number ≡ answer .number
+  pub touches-is : touches ≡ cond (answer .touches) 1 0

@@ -1,0 +1,392 @@
+// The public calls for C and Rust hosts, under their plain names: a slice passes as a pointer and a length, a shape as its coordinates, and each
+// answer but the number through a pointer, which is always written: zero where the call is refused. No function asks anything.
+use screen::Screen;
+use screen::Tile;
+use shape::Shape;
+use shape::Vertex;
+use snap::PixelShape;
+use snap::PixelVertex;
+ghost use Rattle.pool.specs.Words.{edition};
+ghost use Rattle.pool.specs.Opening.{OpenSays};
+ghost use Rattle.shape.specs.declared.Shape.the-variants.{Point, Line, Triangle};
+ghost use Rattle.calls.specs.Tables.{AuditSays, BinSays, BinPixelsSays, ReadSays, ReleaseSays};
+ghost use Rattle.calls.specs.Questions.{BoxSays, CornerSays};
+ghost use Rattle.capi.specs.Faces.{screen, vertex, pixel, binned, released, found, Told};
+
+// Opens a pool: 0, or 1, 2, 3 in that order.
+#[no_mangle]
+pub extern "C" fn flourscoop_open(
+    pool: &mut [u32],
+    width: u32,
+    height: u32,
+    s: u32,
+    blocks: u32,
+) -> u32
+    ensures { λ r. ⌜ OpenSays edition (now (pool .entry)) (screen width height s) blocks r (now (pool .exit)) ⌝ }
+{
+    calls::open(pool, Screen { width, height, s }, blocks)
+}
+
+// 0 where the pool is sound, and else 4.
+#[no_mangle]
+pub extern "C" fn flourscoop_audit(pool: &[u32]) -> u32
+    ensures { λ r. ⌜ AuditSays (now (pool .entry)) r ⌝ }
+{
+    calls::audit(pool)
+}
+
+// Reads the id at a place of a tile's list: 0, or 4, 9, 10 in that order.
+#[no_mangle]
+pub extern "C" fn flourscoop_read(pool: &[u32], tile: u32, place: u32, id: &mut u32) -> u32
+    ensures { λ r. ⌜ ReadSays (now (pool .entry)) tile place (found r (now (id .exit))) ⌝ }
+{
+    let answer = calls::read(pool, Tile(tile), place);
+    *id = answer.id;
+    answer.number
+}
+
+// Empties a tile's list: 0 and the blocks given back, or 4, 9 in that order.
+#[no_mangle]
+pub extern "C" fn flourscoop_release(pool: &mut [u32], tile: u32, blocks: &mut u32) -> u32
+    ensures { λ r. ⌜ ReleaseSays (now (pool .entry)) tile (released r (now (blocks .exit))) (now (pool .exit)) ⌝ }
+{
+    let answer = calls::release(pool, Tile(tile));
+    *blocks = answer.blocks;
+    answer.number
+}
+
+// Bins a shape in units.
+fn bin(pool: &mut [u32], shape: Shape, id: u32, tiles: &mut u32, blocks: &mut u32) -> u32
+    ensures { λ r. ⌜ BinSays (now (pool .entry)) shape id (binned r (now (tiles .exit)) (now (blocks .exit))) (now (pool .exit)) ⌝ }
+{
+    let answer = calls::bin(pool, shape, id);
+    *tiles = answer.tiles;
+    *blocks = answer.blocks;
+    answer.number
+}
+
+// Bins a shape in pixels.
+fn bin_pixels(
+    pool: &mut [u32],
+    shape: PixelShape,
+    id: u32,
+    tiles: &mut u32,
+    blocks: &mut u32,
+) -> u32
+    ensures { λ r. ⌜ BinPixelsSays (now (pool .entry)) shape id (binned r (now (tiles .exit)) (now (blocks .exit))) (now (pool .exit)) ⌝ }
+{
+    let answer = calls::bin_pixels(pool, shape, id);
+    *tiles = answer.tiles;
+    *blocks = answer.blocks;
+    answer.number
+}
+
+// Whether a tile meets the bounding box of a shape.
+fn box_touches(screen: Screen, tile: u32, shape: Shape, touches: &mut u32) -> u32
+    ensures { λ r. ⌜ Told (BoxSays screen tile shape) r (now (touches .exit)) ⌝ }
+{
+    let answer = calls::box_touches(screen, Tile(tile), shape);
+    *touches = answer.touches as u32;
+    answer.number
+}
+
+// Whether a shape touches a tile.
+fn corner_touches(screen: Screen, tile: u32, shape: Shape, touches: &mut u32) -> u32
+    ensures { λ r. ⌜ Told (CornerSays screen tile shape) r (now (touches .exit)) ⌝ }
+{
+    let answer = calls::corner_touches(screen, Tile(tile), shape);
+    *touches = answer.touches as u32;
+    answer.number
+}
+
+// Bins a point in units: 0, the tiles listed and the blocks taken; or 4, 5, 7, 8 in that order.
+#[no_mangle]
+pub extern "C" fn flourscoop_bin_point(
+    pool: &mut [u32],
+    id: u32,
+    x1: i32,
+    y1: i32,
+    tiles: &mut u32,
+    blocks: &mut u32,
+) -> u32
+    ensures { λ r. ⌜ BinSays (now (pool .entry)) (Point (vertex x1 y1)) id (binned r (now (tiles .exit)) (now (blocks .exit))) (now (pool .exit)) ⌝ }
+{
+    bin(
+        pool,
+        Shape::Point(Vertex { x: x1, y: y1 }),
+        id,
+        tiles,
+        blocks,
+    )
+}
+
+// Bins a line in units: 0, the tiles listed and the blocks taken; or 4, 5, 7, 8 in that order.
+#[no_mangle]
+pub extern "C" fn flourscoop_bin_line(
+    pool: &mut [u32],
+    id: u32,
+    x1: i32,
+    y1: i32,
+    x2: i32,
+    y2: i32,
+    tiles: &mut u32,
+    blocks: &mut u32,
+) -> u32
+    ensures { λ r. ⌜ BinSays (now (pool .entry)) (Line (vertex x1 y1) (vertex x2 y2)) id (binned r (now (tiles .exit)) (now (blocks .exit))) (now (pool .exit)) ⌝ }
+{
+    bin(
+        pool,
+        Shape::Line(Vertex { x: x1, y: y1 }, Vertex { x: x2, y: y2 }),
+        id,
+        tiles,
+        blocks,
+    )
+}
+
+// Bins a triangle in units: 0, the tiles listed and the blocks taken; or 4, 5, 7, 8 in that order.
+#[no_mangle]
+pub extern "C" fn flourscoop_bin_triangle(
+    pool: &mut [u32],
+    id: u32,
+    x1: i32,
+    y1: i32,
+    x2: i32,
+    y2: i32,
+    x3: i32,
+    y3: i32,
+    tiles: &mut u32,
+    blocks: &mut u32,
+) -> u32
+    ensures { λ r. ⌜ BinSays (now (pool .entry)) (Triangle (vertex x1 y1) (vertex x2 y2) (vertex x3 y3)) id (binned r (now (tiles .exit)) (now (blocks .exit))) (now (pool .exit)) ⌝ }
+{
+    bin(
+        pool,
+        Shape::Triangle(
+            Vertex { x: x1, y: y1 },
+            Vertex { x: x2, y: y2 },
+            Vertex { x: x3, y: y3 },
+        ),
+        id,
+        tiles,
+        blocks,
+    )
+}
+
+// Bins a point in pixels: 0, the tiles listed and the blocks taken; or 4, 5, then 6 or 7 as its first offence decides, then 8.
+#[no_mangle]
+pub extern "C" fn flourscoop_bin_pixels_point(
+    pool: &mut [u32],
+    id: u32,
+    x1: f32,
+    y1: f32,
+    tiles: &mut u32,
+    blocks: &mut u32,
+) -> u32
+    ensures { λ r. ⌜ BinPixelsSays (now (pool .entry)) (PixelShape.Point (pixel x1 y1)) id (binned r (now (tiles .exit)) (now (blocks .exit))) (now (pool .exit)) ⌝ }
+{
+    bin_pixels(
+        pool,
+        PixelShape::Point(PixelVertex { x: x1, y: y1 }),
+        id,
+        tiles,
+        blocks,
+    )
+}
+
+// Bins a line in pixels: 0, the tiles listed and the blocks taken; or 4, 5, then 6 or 7 as its first offence decides, then 8.
+#[no_mangle]
+pub extern "C" fn flourscoop_bin_pixels_line(
+    pool: &mut [u32],
+    id: u32,
+    x1: f32,
+    y1: f32,
+    x2: f32,
+    y2: f32,
+    tiles: &mut u32,
+    blocks: &mut u32,
+) -> u32
+    ensures { λ r. ⌜ BinPixelsSays (now (pool .entry)) (PixelShape.Line (pixel x1 y1) (pixel x2 y2)) id (binned r (now (tiles .exit)) (now (blocks .exit))) (now (pool .exit)) ⌝ }
+{
+    bin_pixels(
+        pool,
+        PixelShape::Line(PixelVertex { x: x1, y: y1 }, PixelVertex { x: x2, y: y2 }),
+        id,
+        tiles,
+        blocks,
+    )
+}
+
+// Bins a triangle in pixels: 0, the tiles listed and the blocks taken; or 4, 5, then 6 or 7 as its first offence decides, then 8.
+#[no_mangle]
+pub extern "C" fn flourscoop_bin_pixels_triangle(
+    pool: &mut [u32],
+    id: u32,
+    x1: f32,
+    y1: f32,
+    x2: f32,
+    y2: f32,
+    x3: f32,
+    y3: f32,
+    tiles: &mut u32,
+    blocks: &mut u32,
+) -> u32
+    ensures { λ r. ⌜ BinPixelsSays (now (pool .entry)) (PixelShape.Triangle (pixel x1 y1) (pixel x2 y2) (pixel x3 y3)) id (binned r (now (tiles .exit)) (now (blocks .exit))) (now (pool .exit)) ⌝ }
+{
+    bin_pixels(
+        pool,
+        PixelShape::Triangle(
+            PixelVertex { x: x1, y: y1 },
+            PixelVertex { x: x2, y: y2 },
+            PixelVertex { x: x3, y: y3 },
+        ),
+        id,
+        tiles,
+        blocks,
+    )
+}
+
+// Whether a tile meets the bounding box of a point: 0 and the answer, 1 for yes; or 1, 9, 7 in that order.
+#[no_mangle]
+pub extern "C" fn flourscoop_box_point(
+    width: u32,
+    height: u32,
+    s: u32,
+    tile: u32,
+    x1: i32,
+    y1: i32,
+    touches: &mut u32,
+) -> u32
+    ensures { λ r. ⌜ Told (BoxSays (screen width height s) tile (Point (vertex x1 y1))) r (now (touches .exit)) ⌝ }
+{
+    box_touches(
+        Screen { width, height, s },
+        tile,
+        Shape::Point(Vertex { x: x1, y: y1 }),
+        touches,
+    )
+}
+
+// Whether a tile meets the bounding box of a line: 0 and the answer, 1 for yes; or 1, 9, 7 in that order.
+#[no_mangle]
+pub extern "C" fn flourscoop_box_line(
+    width: u32,
+    height: u32,
+    s: u32,
+    tile: u32,
+    x1: i32,
+    y1: i32,
+    x2: i32,
+    y2: i32,
+    touches: &mut u32,
+) -> u32
+    ensures { λ r. ⌜ Told (BoxSays (screen width height s) tile (Line (vertex x1 y1) (vertex x2 y2))) r (now (touches .exit)) ⌝ }
+{
+    box_touches(
+        Screen { width, height, s },
+        tile,
+        Shape::Line(Vertex { x: x1, y: y1 }, Vertex { x: x2, y: y2 }),
+        touches,
+    )
+}
+
+// Whether a tile meets the bounding box of a triangle: 0 and the answer, 1 for yes; or 1, 9, 7 in that order.
+#[no_mangle]
+pub extern "C" fn flourscoop_box_triangle(
+    width: u32,
+    height: u32,
+    s: u32,
+    tile: u32,
+    x1: i32,
+    y1: i32,
+    x2: i32,
+    y2: i32,
+    x3: i32,
+    y3: i32,
+    touches: &mut u32,
+) -> u32
+    ensures { λ r. ⌜ Told (BoxSays (screen width height s) tile (Triangle (vertex x1 y1) (vertex x2 y2) (vertex x3 y3))) r (now (touches .exit)) ⌝ }
+{
+    box_touches(
+        Screen { width, height, s },
+        tile,
+        Shape::Triangle(
+            Vertex { x: x1, y: y1 },
+            Vertex { x: x2, y: y2 },
+            Vertex { x: x3, y: y3 },
+        ),
+        touches,
+    )
+}
+
+// Whether a tile is touched by a point: 0 and the answer, 1 for yes; or 1, 9, 7 in that order.
+#[no_mangle]
+pub extern "C" fn flourscoop_corner_point(
+    width: u32,
+    height: u32,
+    s: u32,
+    tile: u32,
+    x1: i32,
+    y1: i32,
+    touches: &mut u32,
+) -> u32
+    ensures { λ r. ⌜ Told (CornerSays (screen width height s) tile (Point (vertex x1 y1))) r (now (touches .exit)) ⌝ }
+{
+    corner_touches(
+        Screen { width, height, s },
+        tile,
+        Shape::Point(Vertex { x: x1, y: y1 }),
+        touches,
+    )
+}
+
+// Whether a tile is touched by a line: 0 and the answer, 1 for yes; or 1, 9, 7 in that order.
+#[no_mangle]
+pub extern "C" fn flourscoop_corner_line(
+    width: u32,
+    height: u32,
+    s: u32,
+    tile: u32,
+    x1: i32,
+    y1: i32,
+    x2: i32,
+    y2: i32,
+    touches: &mut u32,
+) -> u32
+    ensures { λ r. ⌜ Told (CornerSays (screen width height s) tile (Line (vertex x1 y1) (vertex x2 y2))) r (now (touches .exit)) ⌝ }
+{
+    corner_touches(
+        Screen { width, height, s },
+        tile,
+        Shape::Line(Vertex { x: x1, y: y1 }, Vertex { x: x2, y: y2 }),
+        touches,
+    )
+}
+
+// Whether a tile is touched by a triangle: 0 and the answer, 1 for yes; or 1, 9, 7 in that order.
+#[no_mangle]
+pub extern "C" fn flourscoop_corner_triangle(
+    width: u32,
+    height: u32,
+    s: u32,
+    tile: u32,
+    x1: i32,
+    y1: i32,
+    x2: i32,
+    y2: i32,
+    x3: i32,
+    y3: i32,
+    touches: &mut u32,
+) -> u32
+    ensures { λ r. ⌜ Told (CornerSays (screen width height s) tile (Triangle (vertex x1 y1) (vertex x2 y2) (vertex x3 y3))) r (now (touches .exit)) ⌝ }
+{
+    corner_touches(
+        Screen { width, height, s },
+        tile,
+        Shape::Triangle(
+            Vertex { x: x1, y: y1 },
+            Vertex { x: x2, y: y2 },
+            Vertex { x: x3, y: y3 },
+        ),
+        touches,
+    )
+}

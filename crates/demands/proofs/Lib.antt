@@ -1,0 +1,9 @@
+pub mod Touched
+pub mod OneOutcome
+pub mod Accepted
+pub mod Demand1
+pub mod Demand2
+pub mod Runs
+pub mod Listed
+pub mod Alike
+pub mod Demand3

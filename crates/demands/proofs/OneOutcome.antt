@@ -1,0 +1,164 @@
+-- Each public contract admits one outcome only: two that meet it are equal, in every field of the answer and in every word that is left.
+use mathlib.Core.Path.{_≡_, refl, ap}
+use mathlib.Core.Bool.{Bool, true, false}
+use mathlib.Core.List.{List}
+use Prim.Native.Nat.{ℕ}
+use native.Mathlib.Omega.{arith}
+use Rattle.numbers.specs.Says.{Says}
+use Rattle.screen.specs.declared.Screen.{Screen}
+use Rattle.shape.specs.declared.Shape.{Shape}
+use Rattle.snap.specs.declared.PixelShape.{PixelShape}
+use Rattle.snap.specs.declared.SnappedShape.{SnappedShape}
+use Rattle.pool.specs.Words.{edition}
+use Rattle.lists.specs.Appending.{need}
+use Rattle.calls.specs.declared.Binned.{Binned}
+use Rattle.calls.specs.declared.Released.{Released}
+use Rattle.calls.specs.declared.Found.{Found}
+use Rattle.calls.specs.declared.Answered.{Answered}
+use Rattle.pool.specs.Opening.{OpenSays}
+use Rattle.calls.specs.Tables.{AuditSays, PlaceSays, BinSays, BinPixelsSays, ReadSays, ReleaseSays}
+use Rattle.calls.specs.Questions.{RefusedWith, InOrder, TouchSays, BoxSays, CornerSays}
+use Rattle.walk.proofs.Touched.{touched-tiles-unique}
+
+pub open-one-outcome : {p : List ℕ} {d : Screen} {blocks a b : ℕ} {q r : List ℕ} → OpenSays edition p d blocks a q → OpenSays edition p d blocks b r → (a ≡ b) × (q ≡ r)
+open-one-outcome (OpenSays.bad-screen n e f) (OpenSays.bad-screen n′ e′ f′) = (cc, cc)
+open-one-outcome (OpenSays.bad-screen n e f) (OpenSays.too-many s′ m′ e′ f′) = absurd (n s′)
+open-one-outcome (OpenSays.bad-screen n e f) (OpenSays.too-short s′ m′ l′ e′ f′) = absurd (n s′)
+open-one-outcome (OpenSays.bad-screen n e f) (OpenSays.done s′ m′ l′ e′ f′) = absurd (n s′)
+open-one-outcome (OpenSays.too-many s m e f) (OpenSays.bad-screen n′ e′ f′) = absurd (n′ s)
+open-one-outcome (OpenSays.too-many s m e f) (OpenSays.too-many s′ m′ e′ f′) = (cc, cc)
+open-one-outcome (OpenSays.too-many s m e f) (OpenSays.too-short s′ m′ l′ e′ f′) = absurd (omega arith)
+open-one-outcome (OpenSays.too-many s m e f) (OpenSays.done s′ m′ l′ e′ f′) = absurd (omega arith)
+open-one-outcome (OpenSays.too-short s m l e f) (OpenSays.bad-screen n′ e′ f′) = absurd (n′ s)
+open-one-outcome (OpenSays.too-short s m l e f) (OpenSays.too-many s′ m′ e′ f′) = absurd (omega arith)
+open-one-outcome (OpenSays.too-short s m l e f) (OpenSays.too-short s′ m′ l′ e′ f′) = (cc, cc)
+open-one-outcome (OpenSays.too-short s m l e f) (OpenSays.done s′ m′ l′ e′ f′) = absurd (omega arith)
+open-one-outcome (OpenSays.done s m l e f) (OpenSays.bad-screen n′ e′ f′) = absurd (n′ s)
+open-one-outcome (OpenSays.done s m l e f) (OpenSays.too-many s′ m′ e′ f′) = absurd (omega arith)
+open-one-outcome (OpenSays.done s m l e f) (OpenSays.too-short s′ m′ l′ e′ f′) = absurd (omega arith)
+open-one-outcome (OpenSays.done s m l e f) (OpenSays.done s′ m′ l′ e′ f′) = (cc, cc)
+
+pub audit-one-outcome : {p : List ℕ} {a b : ℕ} → AuditSays p a → AuditSays p b → a ≡ b
+audit-one-outcome (AuditSays.damaged n e) (AuditSays.damaged n′ e′) = cc
+audit-one-outcome (AuditSays.damaged n e) (AuditSays.done s′ e′) = absurd (n s′)
+audit-one-outcome (AuditSays.done s e) (AuditSays.damaged n′ e′) = absurd (n′ s)
+audit-one-outcome (AuditSays.done s e) (AuditSays.done s′ e′) = cc
+
+-- ---- the bins
+
+place-one-outcome : {p : List ℕ} {shape : Shape} {id : ℕ} {a b : Binned} {q r : List ℕ} → PlaceSays p shape id a q → PlaceSays p shape id b r → (a ≡ b) × (q ≡ r)
+place-one-outcome (PlaceSays.no-room ts t l e f) (PlaceSays.no-room ts′ t′ l′ e′ f′) = (cc, cc)
+place-one-outcome {p} (PlaceSays.no-room ts t l e f) (PlaceSays.done ts′ t′ l′ e′ f′) = absurd (omega (arith, ap (need edition p) (touched-tiles-unique t t′)))
+place-one-outcome {p} (PlaceSays.done ts t l e f) (PlaceSays.no-room ts′ t′ l′ e′ f′) = absurd (omega (arith, ap (need edition p) (touched-tiles-unique t t′)))
+place-one-outcome (PlaceSays.done ts t l e f) (PlaceSays.done ts′ t′ l′ e′ f′) = let u = touched-tiles-unique t t′ in (cc, cc)
+
+pub bin-one-outcome : {p : List ℕ} {shape : Shape} {id : ℕ} {a b : Binned} {q r : List ℕ} → BinSays p shape id a q → BinSays p shape id b r → (a ≡ b) × (q ≡ r)
+bin-one-outcome (BinSays.damaged n e f) (BinSays.damaged n′ e′ f′) = (cc, cc)
+bin-one-outcome (BinSays.damaged n e f) (BinSays.bad-id s′ i′ e′ f′) = absurd (n s′)
+bin-one-outcome (BinSays.damaged n e f) (BinSays.out-of-range s′ i′ o′ e′ f′) = absurd (n s′)
+bin-one-outcome (BinSays.damaged n e f) (BinSays.placed s′ i′ o′ w′) = absurd (n s′)
+bin-one-outcome (BinSays.bad-id s i e f) (BinSays.damaged n′ e′ f′) = absurd (n′ s)
+bin-one-outcome (BinSays.bad-id s i e f) (BinSays.bad-id s′ i′ e′ f′) = (cc, cc)
+bin-one-outcome (BinSays.bad-id s i e f) (BinSays.out-of-range s′ i′ o′ e′ f′) = absurd (omega arith)
+bin-one-outcome (BinSays.bad-id s i e f) (BinSays.placed s′ i′ o′ w′) = absurd (omega arith)
+bin-one-outcome (BinSays.out-of-range s i o e f) (BinSays.damaged n′ e′ f′) = absurd (n′ s)
+bin-one-outcome (BinSays.out-of-range s i o e f) (BinSays.bad-id s′ i′ e′ f′) = absurd (omega arith)
+bin-one-outcome (BinSays.out-of-range s i o e f) (BinSays.out-of-range s′ i′ o′ e′ f′) = (cc, cc)
+bin-one-outcome (BinSays.out-of-range s i o e f) (BinSays.placed s′ i′ o′ w′) = absurd (o o′)
+bin-one-outcome (BinSays.placed s i o w) (BinSays.damaged n′ e′ f′) = absurd (n′ s)
+bin-one-outcome (BinSays.placed s i o w) (BinSays.bad-id s′ i′ e′ f′) = absurd (omega arith)
+bin-one-outcome (BinSays.placed s i o w) (BinSays.out-of-range s′ i′ o′ e′ f′) = absurd (o′ o)
+bin-one-outcome (BinSays.placed s i o w) (BinSays.placed s′ i′ o′ w′) = place-one-outcome w w′
+
+-- a shape in pixels is refused, or is a shape in units
+refused-or-whole : {s : SnappedShape} {n : ℕ} {w : Shape} → s ≡ SnappedShape.Refused n → s ≡ SnappedShape.Whole w → ⊥
+refused-or-whole {s} {n} {w} e f = let z : _≡_ {A = ℕ} 0 1 = cc in omega arith
+
+place-one-shape : {p : List ℕ} {shape whole : Shape} {id : ℕ} {a b : Binned} {q r : List ℕ} → shape ≡ whole → PlaceSays p shape id a q → PlaceSays p whole id b r → (a ≡ b) × (q ≡ r)
+place-one-shape {p} {shape} {whole} {id} {a} {b} {q} {r} e w w′ = place-one-outcome w (rw e w′)
+
+pub bin-pixels-one-outcome : {p : List ℕ} {shape : PixelShape} {id : ℕ} {a b : Binned} {q r : List ℕ} → BinPixelsSays p shape id a q → BinPixelsSays p shape id b r → (a ≡ b) × (q ≡ r)
+bin-pixels-one-outcome (BinPixelsSays.damaged n e f) (BinPixelsSays.damaged n′ e′ f′) = (cc, cc)
+bin-pixels-one-outcome (BinPixelsSays.damaged n e f) (BinPixelsSays.bad-id s′ i′ e′ f′) = absurd (n s′)
+bin-pixels-one-outcome (BinPixelsSays.damaged n e f) (BinPixelsSays.offence s′ i′ k′ o′ e′ f′) = absurd (n s′)
+bin-pixels-one-outcome (BinPixelsSays.damaged n e f) (BinPixelsSays.placed s′ i′ k′ o′ w′) = absurd (n s′)
+bin-pixels-one-outcome (BinPixelsSays.bad-id s i e f) (BinPixelsSays.damaged n′ e′ f′) = absurd (n′ s)
+bin-pixels-one-outcome (BinPixelsSays.bad-id s i e f) (BinPixelsSays.bad-id s′ i′ e′ f′) = (cc, cc)
+bin-pixels-one-outcome (BinPixelsSays.bad-id s i e f) (BinPixelsSays.offence s′ i′ k′ o′ e′ f′) = absurd (omega arith)
+bin-pixels-one-outcome (BinPixelsSays.bad-id s i e f) (BinPixelsSays.placed s′ i′ k′ o′ w′) = absurd (omega arith)
+bin-pixels-one-outcome (BinPixelsSays.offence s i k o e f) (BinPixelsSays.damaged n′ e′ f′) = absurd (n′ s)
+bin-pixels-one-outcome (BinPixelsSays.offence s i k o e f) (BinPixelsSays.bad-id s′ i′ e′ f′) = absurd (omega arith)
+bin-pixels-one-outcome (BinPixelsSays.offence s i k o e f) (BinPixelsSays.offence s′ i′ k′ o′ e′ f′) = let u : k ≡ k′ = cc in (cc, cc)
+bin-pixels-one-outcome (BinPixelsSays.offence s i k o e f) (BinPixelsSays.placed s′ i′ k′ o′ w′) = absurd (refused-or-whole o o′)
+bin-pixels-one-outcome (BinPixelsSays.placed s i k o w) (BinPixelsSays.damaged n′ e′ f′) = absurd (n′ s)
+bin-pixels-one-outcome (BinPixelsSays.placed s i k o w) (BinPixelsSays.bad-id s′ i′ e′ f′) = absurd (omega arith)
+bin-pixels-one-outcome (BinPixelsSays.placed s i k o w) (BinPixelsSays.offence s′ i′ k′ o′ e′ f′) = absurd (refused-or-whole o′ o)
+bin-pixels-one-outcome (BinPixelsSays.placed s i k o w) (BinPixelsSays.placed s′ i′ k′ o′ w′) = place-one-shape (cc) w w′
+
+-- ---- reading and releasing
+
+pub read-one-outcome : {p : List ℕ} {t place : ℕ} {a b : Found} → ReadSays p t place a → ReadSays p t place b → a ≡ b
+read-one-outcome (ReadSays.damaged n e) (ReadSays.damaged n′ e′) = cc
+read-one-outcome (ReadSays.damaged n e) (ReadSays.no-tile s′ t′ e′) = absurd (n s′)
+read-one-outcome (ReadSays.damaged n e) (ReadSays.past s′ t′ l′ e′) = absurd (n s′)
+read-one-outcome (ReadSays.damaged n e) (ReadSays.done s′ t′ l′ e′) = absurd (n s′)
+read-one-outcome (ReadSays.no-tile s t e) (ReadSays.damaged n′ e′) = absurd (n′ s)
+read-one-outcome (ReadSays.no-tile s t e) (ReadSays.no-tile s′ t′ e′) = cc
+read-one-outcome (ReadSays.no-tile s t e) (ReadSays.past s′ t′ l′ e′) = absurd (omega arith)
+read-one-outcome (ReadSays.no-tile s t e) (ReadSays.done s′ t′ l′ e′) = absurd (omega arith)
+read-one-outcome (ReadSays.past s t l e) (ReadSays.damaged n′ e′) = absurd (n′ s)
+read-one-outcome (ReadSays.past s t l e) (ReadSays.no-tile s′ t′ e′) = absurd (omega arith)
+read-one-outcome (ReadSays.past s t l e) (ReadSays.past s′ t′ l′ e′) = cc
+read-one-outcome (ReadSays.past s t l e) (ReadSays.done s′ t′ l′ e′) = absurd (omega arith)
+read-one-outcome (ReadSays.done s t l e) (ReadSays.damaged n′ e′) = absurd (n′ s)
+read-one-outcome (ReadSays.done s t l e) (ReadSays.no-tile s′ t′ e′) = absurd (omega arith)
+read-one-outcome (ReadSays.done s t l e) (ReadSays.past s′ t′ l′ e′) = absurd (omega arith)
+read-one-outcome (ReadSays.done s t l e) (ReadSays.done s′ t′ l′ e′) = cc
+
+pub release-one-outcome : {p : List ℕ} {t : ℕ} {a b : Released} {q r : List ℕ} → ReleaseSays p t a q → ReleaseSays p t b r → (a ≡ b) × (q ≡ r)
+release-one-outcome (ReleaseSays.damaged n e f) (ReleaseSays.damaged n′ e′ f′) = (cc, cc)
+release-one-outcome (ReleaseSays.damaged n e f) (ReleaseSays.no-tile s′ t′ e′ f′) = absurd (n s′)
+release-one-outcome (ReleaseSays.damaged n e f) (ReleaseSays.done s′ t′ e′ f′) = absurd (n s′)
+release-one-outcome (ReleaseSays.no-tile s t e f) (ReleaseSays.damaged n′ e′ f′) = absurd (n′ s)
+release-one-outcome (ReleaseSays.no-tile s t e f) (ReleaseSays.no-tile s′ t′ e′ f′) = (cc, cc)
+release-one-outcome (ReleaseSays.no-tile s t e f) (ReleaseSays.done s′ t′ e′ f′) = absurd (omega arith)
+release-one-outcome (ReleaseSays.done s t e f) (ReleaseSays.damaged n′ e′ f′) = absurd (n′ s)
+release-one-outcome (ReleaseSays.done s t e f) (ReleaseSays.no-tile s′ t′ e′ f′) = absurd (omega arith)
+release-one-outcome (ReleaseSays.done s t e f) (ReleaseSays.done s′ t′ e′ f′) = (cc, cc)
+
+-- ---- the questions about touching
+
+refused-with-one : {d : Screen} {t : ℕ} {shape : Shape} {m n : ℕ} → RefusedWith d t shape m → RefusedWith d t shape n → m ≡ n
+refused-with-one (RefusedWith.bad-screen n e) (RefusedWith.bad-screen n′ e′) = cc
+refused-with-one (RefusedWith.bad-screen n e) (RefusedWith.no-tile s′ t′ e′) = absurd (n s′)
+refused-with-one (RefusedWith.bad-screen n e) (RefusedWith.out-of-range s′ t′ o′ e′) = absurd (n s′)
+refused-with-one (RefusedWith.no-tile s t e) (RefusedWith.bad-screen n′ e′) = absurd (n′ s)
+refused-with-one (RefusedWith.no-tile s t e) (RefusedWith.no-tile s′ t′ e′) = cc
+refused-with-one (RefusedWith.no-tile s t e) (RefusedWith.out-of-range s′ t′ o′ e′) = absurd (omega arith)
+refused-with-one (RefusedWith.out-of-range s t o e) (RefusedWith.bad-screen n′ e′) = absurd (n′ s)
+refused-with-one (RefusedWith.out-of-range s t o e) (RefusedWith.no-tile s′ t′ e′) = absurd (omega arith)
+refused-with-one (RefusedWith.out-of-range s t o e) (RefusedWith.out-of-range s′ t′ o′ e′) = cc
+
+refused-or-in-order : {d : Screen} {t : ℕ} {shape : Shape} {n : ℕ} → RefusedWith d t shape n → InOrder d t shape → ⊥
+refused-or-in-order (RefusedWith.bad-screen n e) o = n (o .screen)
+refused-or-in-order (RefusedWith.no-tile s t e) o = omega (arith, o .tile)
+refused-or-in-order (RefusedWith.out-of-range s t n e) o = n (o .in-range)
+
+-- one question has one answer
+says-one : {P : Type 0} {r s : Bool} → Says r P → Says s P → r ≡ s
+says-one {r = true} {s = true} h k = refl
+says-one {r = true} {s = false} h k = absurd (k .no refl (h .yes refl))
+says-one {r = false} {s = true} h k = absurd (h .no refl (k .yes refl))
+says-one {r = false} {s = false} h k = refl
+
+touch-one-outcome : {P : Type 0} {d : Screen} {t : ℕ} {shape : Shape} {a b : Answered} → TouchSays P d t shape a → TouchSays P d t shape b → a ≡ b
+touch-one-outcome (TouchSays.refused n c e) (TouchSays.refused n′ c′ e′) = let u = refused-with-one c c′ in cc
+touch-one-outcome (TouchSays.refused n c e) (TouchSays.done o′ r′ s′ e′) = absurd (refused-or-in-order c o′)
+touch-one-outcome (TouchSays.done o r s e) (TouchSays.refused n′ c′ e′) = absurd (refused-or-in-order c′ o)
+touch-one-outcome (TouchSays.done o r s e) (TouchSays.done o′ r′ s′ e′) = let u = says-one s s′ in cc
+
+pub box-one-outcome : {d : Screen} {t : ℕ} {shape : Shape} {a b : Answered} → BoxSays d t shape a → BoxSays d t shape b → a ≡ b
+box-one-outcome = touch-one-outcome
+
+pub corner-one-outcome : {d : Screen} {t : ℕ} {shape : Shape} {a b : Answered} → CornerSays d t shape a → CornerSays d t shape b → a ≡ b
+corner-one-outcome = touch-one-outcome

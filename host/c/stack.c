@@ -1,0 +1,96 @@
+/* The stack that each call uses, to the next 16 bytes: it is run on a stack filled with a pattern, and what it reaches is
+   counted, less what a run without a call reaches. */
+#include <stdint.h>
+#include <stdio.h>
+#include <stdlib.h>
+#include <string.h>
+#include <ucontext.h>
+
+#include "flourscoop.h"
+
+enum { STACK = 1 << 20, PATTERN = 0xA5 };
+enum { WIDTH = 800, HEIGHT = 480, S = 4, BLOCKS = 2048, WORDS = FLOURSCOOP_ROOM(WIDTH, HEIGHT, S, BLOCKS) };
+
+static unsigned char stack[STACK] __attribute__((aligned(16)));
+static uint32_t pool[WORDS];
+static uint32_t number, value, other;
+
+static void nothing(void) { number = FLOURSCOOP_DONE; }
+static void open_pool(void) { number = flourscoop_open(pool, WORDS, WIDTH, HEIGHT, S, BLOCKS); }
+static void audit(void) { number = flourscoop_audit(pool, WORDS); }
+static void bin_point(void) { number = flourscoop_bin_point(pool, WORDS, 1, 256, 256, &value, &other); }
+static void bin_line(void) { number = flourscoop_bin_line(pool, WORDS, 1, 0, 0, 12800, 7680, &value, &other); }
+static void bin_triangle(void)
+{
+    number = flourscoop_bin_triangle(pool, WORDS, 1, 0, 0, 12800, 0, 0, 7680, &value, &other);
+}
+static void pixels_point(void) { number = flourscoop_bin_pixels_point(pool, WORDS, 1, 16, 16, &value, &other); }
+static void pixels_line(void) { number = flourscoop_bin_pixels_line(pool, WORDS, 1, 0, 0, 800, 480, &value, &other); }
+static void pixels_triangle(void)
+{
+    number = flourscoop_bin_pixels_triangle(pool, WORDS, 1, 0, 0, 800, 0, 0, 480, &value, &other);
+}
+static void read_id(void) { number = flourscoop_read(pool, WORDS, 0, 1, &value); }
+static void release(void) { number = flourscoop_release(pool, WORDS, 0, &value); }
+static void box_point(void) { number = flourscoop_box_point(WIDTH, HEIGHT, S, 0, 9, 9, &value); }
+static void box_line(void) { number = flourscoop_box_line(WIDTH, HEIGHT, S, 0, 0, 0, 99, 99, &value); }
+static void box_triangle(void) { number = flourscoop_box_triangle(WIDTH, HEIGHT, S, 700, 0, 0, 12800, 0, 0, 7680, &value); }
+static void corner_point(void) { number = flourscoop_corner_point(WIDTH, HEIGHT, S, 0, 9, 9, &value); }
+static void corner_line(void) { number = flourscoop_corner_line(WIDTH, HEIGHT, S, 0, 0, 0, 99, 99, &value); }
+static void corner_triangle(void)
+{
+    number = flourscoop_corner_triangle(WIDTH, HEIGHT, S, 700, 0, 0, 12800, 0, 0, 7680, &value);
+}
+
+/* How many bytes from the top of the stack a run of the call reaches. */
+static size_t reach(void (*call)(void))
+{
+    static ucontext_t here, there;
+    size_t untouched = 0;
+    memset(stack, PATTERN, STACK);
+    getcontext(&there);
+    there.uc_stack.ss_sp = stack;
+    there.uc_stack.ss_size = STACK;
+    there.uc_link = &here;
+    makecontext(&there, call, 0);
+    swapcontext(&here, &there);
+    while (untouched < STACK && stack[untouched] == PATTERN)
+        untouched++;
+    return STACK - untouched;
+}
+
+int main(void)
+{
+    static const struct {
+        const char *name;
+        void (*call)(void);
+    } calls[] = {
+        {"open", open_pool},
+        {"audit", audit},
+        {"bin_point", bin_point},
+        {"bin_line", bin_line},
+        {"bin_triangle", bin_triangle},
+        {"bin_pixels_point", pixels_point},
+        {"bin_pixels_line", pixels_line},
+        {"bin_pixels_triangle", pixels_triangle},
+        {"read", read_id},
+        {"release", release},
+        {"box_point", box_point},
+        {"box_line", box_line},
+        {"box_triangle", box_triangle},
+        {"corner_point", corner_point},
+        {"corner_line", corner_line},
+        {"corner_triangle", corner_triangle},
+    };
+    size_t least = reach(nothing);
+    puts("| call | stack, bytes |\n|---|---|");
+    for (size_t k = 0; k < sizeof calls / sizeof *calls; k++) {
+        size_t used = reach(calls[k].call) - least;
+        if (number != FLOURSCOOP_DONE) {
+            printf("%s was refused with %u\n", calls[k].name, number);
+            return 1;
+        }
+        printf("| %s | %zu |\n", calls[k].name, (used + 15) / 16 * 16);
+    }
+    return 0;
+}

@@ -1,0 +1,198 @@
+//! A safe face of libflourscoop.a, the proved tile binner.
+//!
+//! ```
+//! use flourscoop::{room, Pool, Refusal, Screen, Shape, Vertex};
+//!
+//! let screen = Screen { width: 64, height: 32, s: 4 };
+//! let mut words = vec![0; room(screen, 2)];
+//! let mut pool = Pool::open(&mut words, screen, 2)?;
+//!
+//! let binned = pool.bin(7, Shape::Point(Vertex { x: 0, y: 0 }))?;
+//! assert_eq!((binned.tiles, binned.blocks), (1, 1));
+//! assert_eq!(pool.read(0, 0)?, 7);
+//!
+//! // four tiles meet in this point, three of them are empty, and one block is free
+//! assert_eq!(pool.bin(9, Shape::Point(Vertex { x: 256, y: 256 })), Err(Refusal::NoRoom));
+//! assert_eq!(pool.release(0)?, 1);
+//! # Ok::<(), Refusal>(())
+//! ```
+
+pub mod raw;
+
+use std::fmt;
+
+/// A screen of `width` by `height` pixels with tiles of 2^`s` by 2^`s` pixels, numbered row by row from the top left.
+#[derive(Clone, Copy, PartialEq, Eq, Debug)]
+pub struct Screen {
+    pub width: u32,
+    pub height: u32,
+    pub s: u32,
+}
+
+/// A vertex in units, a sixteenth of a pixel each; x to the right, y down.
+#[derive(Clone, Copy, PartialEq, Eq, Debug)]
+pub struct Vertex {
+    pub x: i32,
+    pub y: i32,
+}
+
+/// A vertex in pixels.
+#[derive(Clone, Copy, PartialEq, Debug)]
+pub struct Pixel {
+    pub x: f32,
+    pub y: f32,
+}
+
+/// A shape, in units as `Shape<Vertex>` or in pixels as `Shape<Pixel>`.
+#[derive(Clone, Copy, PartialEq, Eq, Debug)]
+pub enum Shape<V> {
+    Point(V),
+    Line(V, V),
+    Triangle(V, V, V),
+}
+
+impl<V: Copy> Shape<V> {
+    /// The shape with these vertices, where they are one, two or three.
+    pub fn of(vertices: &[V]) -> Option<Shape<V>> {
+        match *vertices {
+            [a] => Some(Shape::Point(a)),
+            [a, b] => Some(Shape::Line(a, b)),
+            [a, b, c] => Some(Shape::Triangle(a, b, c)),
+            _ => None,
+        }
+    }
+}
+
+/// Why a call was refused. A refused call changes no word.
+#[derive(Clone, Copy, PartialEq, Eq, Debug)]
+pub enum Refusal {
+    /// 1: the screen or s is outside the rules
+    Screen,
+    /// 2: more than 2,048 blocks
+    Blocks,
+    /// 3: the slice is shorter than the room needed
+    Short,
+    /// 4: the pool is not sound
+    Unsound,
+    /// 5: the id is above 16,777,215
+    Id,
+    /// 6: a coordinate is infinite or no number
+    NotFinite,
+    /// 7: a unit is outside the range of a vertex
+    OutOfRange,
+    /// 8: the blocks needed exceed the free ones
+    NoRoom,
+    /// 9: there is no such tile
+    NoTile,
+    /// 10: the place is at or past the entry count
+    NoPlace,
+}
+
+const REFUSALS: [Refusal; 10] = [
+    Refusal::Screen,
+    Refusal::Blocks,
+    Refusal::Short,
+    Refusal::Unsound,
+    Refusal::Id,
+    Refusal::NotFinite,
+    Refusal::OutOfRange,
+    Refusal::NoRoom,
+    Refusal::NoTile,
+    Refusal::NoPlace,
+];
+
+impl fmt::Display for Refusal {
+    fn fmt(&self, f: &mut fmt::Formatter) -> fmt::Result {
+        write!(f, "refused with {}: {:?}", *self as u32 + 1, self)
+    }
+}
+
+impl std::error::Error for Refusal {}
+
+impl<const VALUES: usize> raw::Answer<VALUES> {
+    /// The values of a call that was done, or why it was refused.
+    pub fn done(self) -> Result<[u32; VALUES], Refusal> {
+        match self.number {
+            0 => Ok(self.values),
+            number => Err(REFUSALS[number as usize - 1]),
+        }
+    }
+}
+
+/// Tiles in which a shape was listed, and blocks taken for it.
+#[derive(Clone, Copy, PartialEq, Eq, Debug)]
+pub struct Binned {
+    pub tiles: u32,
+    pub blocks: u32,
+}
+
+impl From<[u32; 2]> for Binned {
+    fn from([tiles, blocks]: [u32; 2]) -> Binned {
+        Binned { tiles, blocks }
+    }
+}
+
+/// The words that a pool needs for a screen within the rules.
+pub fn room(screen: Screen, blocks: u32) -> usize {
+    let across = |extent: u32| extent.div_ceil(1 << screen.s) as usize;
+    8 + 3 * across(screen.width) * across(screen.height) + 32 * blocks as usize
+}
+
+/// A pool in words that the caller lends. Every call audits it first.
+#[derive(Debug)]
+pub struct Pool<'a> {
+    words: &'a mut [u32],
+}
+
+impl<'a> Pool<'a> {
+    /// Opens a pool: all tiles empty, all blocks free. Words past the room needed stay as they are.
+    pub fn open(words: &'a mut [u32], screen: Screen, blocks: u32) -> Result<Pool<'a>, Refusal> {
+        raw::open(words, screen, blocks).done()?;
+        Ok(Pool { words })
+    }
+
+    /// The pool that stands in the words, whatever they are.
+    pub fn over(words: &'a mut [u32]) -> Pool<'a> {
+        Pool { words }
+    }
+
+    /// Whether the pool is sound.
+    pub fn is_sound(&self) -> bool {
+        raw::audit(self.words).done().is_ok()
+    }
+
+    /// Appends the id to the list of each tile that the shape touches, or changes nothing.
+    pub fn bin(&mut self, id: u32, shape: Shape<Vertex>) -> Result<Binned, Refusal> {
+        raw::bin(self.words, id, shape).done().map(Binned::from)
+    }
+
+    /// The same of a shape in pixels. Each coordinate goes to the nearest unit, a half to the even one.
+    pub fn bin_pixels(&mut self, id: u32, shape: Shape<Pixel>) -> Result<Binned, Refusal> {
+        raw::bin_pixels(self.words, id, shape).done().map(Binned::from)
+    }
+
+    /// The id at a place of a tile's list, places counted from 0.
+    pub fn read(&self, tile: u32, place: u32) -> Result<u32, Refusal> {
+        raw::read(self.words, tile, place).done().map(|[id]| id)
+    }
+
+    /// Empties a tile's list and gives its blocks back. The answer is how many they were.
+    pub fn release(&mut self, tile: u32) -> Result<u32, Refusal> {
+        raw::release(self.words, tile).done().map(|[blocks]| blocks)
+    }
+
+    /// The words of the pool.
+    pub fn words(&self) -> &[u32] {
+        self.words
+    }
+}
+
+/// Whether a tile of a screen meets the shape's bounding box.
+pub fn box_touches(screen: Screen, tile: u32, shape: Shape<Vertex>) -> Result<bool, Refusal> {
+    raw::box_touches(screen, tile, shape).done().map(|[touches]| touches == 1)
+}
+
+/// Whether the shape touches a tile of a screen.
+pub fn corner_touches(screen: Screen, tile: u32, shape: Shape<Vertex>) -> Result<bool, Refusal> {
+    raw::corner_touches(screen, tile, shape).done().map(|[touches]| touches == 1)
+}

@@ -1,0 +1,126 @@
+//! The calls as the archive has them: a number, and the values that it wrote.
+
+use crate::{Pixel, Screen, Shape, Vertex};
+
+// The declarations of include/flourscoop.h. Nothing checks them against the source of the archive but the tests.
+#[rustfmt::skip]
+extern "C" {
+    fn flourscoop_open(pool: *mut u32, words: usize, width: u32, height: u32, s: u32, blocks: u32) -> u32;
+    fn flourscoop_audit(pool: *const u32, words: usize) -> u32;
+    fn flourscoop_read(pool: *const u32, words: usize, tile: u32, place: u32, id: *mut u32) -> u32;
+    fn flourscoop_release(pool: *mut u32, words: usize, tile: u32, blocks: *mut u32) -> u32;
+
+    fn flourscoop_bin_point(pool: *mut u32, words: usize, id: u32,
+        x1: i32, y1: i32, tiles: *mut u32, blocks: *mut u32) -> u32;
+    fn flourscoop_bin_line(pool: *mut u32, words: usize, id: u32,
+        x1: i32, y1: i32, x2: i32, y2: i32, tiles: *mut u32, blocks: *mut u32) -> u32;
+    fn flourscoop_bin_triangle(pool: *mut u32, words: usize, id: u32,
+        x1: i32, y1: i32, x2: i32, y2: i32, x3: i32, y3: i32, tiles: *mut u32, blocks: *mut u32) -> u32;
+
+    fn flourscoop_bin_pixels_point(pool: *mut u32, words: usize, id: u32,
+        x1: f32, y1: f32, tiles: *mut u32, blocks: *mut u32) -> u32;
+    fn flourscoop_bin_pixels_line(pool: *mut u32, words: usize, id: u32,
+        x1: f32, y1: f32, x2: f32, y2: f32, tiles: *mut u32, blocks: *mut u32) -> u32;
+    fn flourscoop_bin_pixels_triangle(pool: *mut u32, words: usize, id: u32,
+        x1: f32, y1: f32, x2: f32, y2: f32, x3: f32, y3: f32, tiles: *mut u32, blocks: *mut u32) -> u32;
+
+    fn flourscoop_box_point(width: u32, height: u32, s: u32, tile: u32,
+        x1: i32, y1: i32, touches: *mut u32) -> u32;
+    fn flourscoop_box_line(width: u32, height: u32, s: u32, tile: u32,
+        x1: i32, y1: i32, x2: i32, y2: i32, touches: *mut u32) -> u32;
+    fn flourscoop_box_triangle(width: u32, height: u32, s: u32, tile: u32,
+        x1: i32, y1: i32, x2: i32, y2: i32, x3: i32, y3: i32, touches: *mut u32) -> u32;
+
+    fn flourscoop_corner_point(width: u32, height: u32, s: u32, tile: u32,
+        x1: i32, y1: i32, touches: *mut u32) -> u32;
+    fn flourscoop_corner_line(width: u32, height: u32, s: u32, tile: u32,
+        x1: i32, y1: i32, x2: i32, y2: i32, touches: *mut u32) -> u32;
+    fn flourscoop_corner_triangle(width: u32, height: u32, s: u32, tile: u32,
+        x1: i32, y1: i32, x2: i32, y2: i32, x3: i32, y3: i32, touches: *mut u32) -> u32;
+}
+
+/// The number that a call returned, and what it wrote through its pointers: zeros where it refused.
+#[derive(Clone, Copy, PartialEq, Eq, Debug)]
+pub struct Answer<const VALUES: usize> {
+    pub number: u32,
+    pub values: [u32; VALUES],
+}
+
+/// What stands behind a pointer before the call; a value that is still this was not written.
+const UNWRITTEN: u32 = 0xAAAA_AAAA;
+
+/// The answer of a call that is handed pointers to so many values.
+fn answer<const VALUES: usize>(call: impl FnOnce(&mut [u32; VALUES]) -> u32) -> Answer<VALUES> {
+    let mut values = [UNWRITTEN; VALUES];
+    let number = call(&mut values);
+    Answer { number, values }
+}
+
+/// Calls the point, line or triangle form: what comes before the coordinates, the shape, what comes after.
+macro_rules! call {
+    ($point:ident $line:ident $triangle:ident: ($($before:expr),*) $shape:ident ($($after:expr),*)) => {
+        // the pointers are those of references that live through the call
+        match $shape {
+            Shape::Point(a) => unsafe { $point($($before,)* a.x, a.y, $($after),*) },
+            Shape::Line(a, b) => unsafe { $line($($before,)* a.x, a.y, b.x, b.y, $($after),*) },
+            Shape::Triangle(a, b, c) => unsafe {
+                $triangle($($before,)* a.x, a.y, b.x, b.y, c.x, c.y, $($after),*)
+            },
+        }
+    };
+}
+
+/// Opens a pool. Numbers: 0, 1, 2, 3.
+pub fn open(pool: &mut [u32], screen: Screen, blocks: u32) -> Answer<0> {
+    let Screen { width, height, s } = screen;
+    answer(|_| unsafe { flourscoop_open(pool.as_mut_ptr(), pool.len(), width, height, s, blocks) })
+}
+
+/// Whether the pool is sound. Numbers: 0, 4.
+pub fn audit(pool: &[u32]) -> Answer<0> {
+    answer(|_| unsafe { flourscoop_audit(pool.as_ptr(), pool.len()) })
+}
+
+/// Bins a shape in units. Values: tiles listed, blocks taken. Numbers: 0, 4, 5, 7, 8.
+pub fn bin(pool: &mut [u32], id: u32, shape: Shape<Vertex>) -> Answer<2> {
+    answer(|[tiles, blocks]| {
+        call!(flourscoop_bin_point flourscoop_bin_line flourscoop_bin_triangle:
+            (pool.as_mut_ptr(), pool.len(), id) shape (tiles, blocks))
+    })
+}
+
+/// Bins a shape in pixels. Values: tiles listed, blocks taken. Numbers: 0, 4, 5, 6, 7, 8.
+pub fn bin_pixels(pool: &mut [u32], id: u32, shape: Shape<Pixel>) -> Answer<2> {
+    answer(|[tiles, blocks]| {
+        call!(flourscoop_bin_pixels_point flourscoop_bin_pixels_line flourscoop_bin_pixels_triangle:
+            (pool.as_mut_ptr(), pool.len(), id) shape (tiles, blocks))
+    })
+}
+
+/// Reads the id at a place of a tile's list. Value: the id. Numbers: 0, 4, 9, 10.
+pub fn read(pool: &[u32], tile: u32, place: u32) -> Answer<1> {
+    answer(|[id]| unsafe { flourscoop_read(pool.as_ptr(), pool.len(), tile, place, id) })
+}
+
+/// Empties a tile's list. Value: the blocks given back. Numbers: 0, 4, 9.
+pub fn release(pool: &mut [u32], tile: u32) -> Answer<1> {
+    answer(|[blocks]| unsafe { flourscoop_release(pool.as_mut_ptr(), pool.len(), tile, blocks) })
+}
+
+/// Whether a tile meets a shape's bounding box. Value: 1 for yes, 0 for no. Numbers: 0, 1, 7, 9.
+pub fn box_touches(screen: Screen, tile: u32, shape: Shape<Vertex>) -> Answer<1> {
+    let Screen { width, height, s } = screen;
+    answer(|[touches]| {
+        call!(flourscoop_box_point flourscoop_box_line flourscoop_box_triangle:
+            (width, height, s, tile) shape (touches))
+    })
+}
+
+/// Whether a shape touches a tile. Value: 1 for yes, 0 for no. Numbers: 0, 1, 7, 9.
+pub fn corner_touches(screen: Screen, tile: u32, shape: Shape<Vertex>) -> Answer<1> {
+    let Screen { width, height, s } = screen;
+    answer(|[touches]| {
+        call!(flourscoop_corner_point flourscoop_corner_line flourscoop_corner_triangle:
+            (width, height, s, tile) shape (touches))
+    })
+}

@@ -1,0 +1,67 @@
+//! The model gives what document 01 lists.
+
+use model::marked::{MARKED, SCREEN};
+use model::number;
+use model::pool::{State, POISON};
+use model::screen::Screen;
+use model::touch::{box_meets, touched};
+use model::unit::unit;
+
+#[test]
+fn marked_cases() {
+    for case in MARKED {
+        let boxed: Vec<u32> =
+            (0..SCREEN.tiles()).filter(|&tile| box_meets(case.shape, SCREEN.rectangle(tile))).collect();
+        assert_eq!(touched(SCREEN, case.shape), case.tiles, "{}", case.name);
+        assert_eq!(boxed, case.boxed, "the box of {}", case.name);
+    }
+}
+
+#[test]
+fn a_tile_past_the_glass_is_full_size() {
+    assert_eq!(touched(Screen { width: 60, height: 32, s: 4 }, &[[1000, 10]]), [3]);
+}
+
+#[test]
+fn the_box_of_a_negative_point_gains_no_tile() {
+    assert!(!box_meets(&[[-1, 10]], SCREEN.rectangle(0)));
+}
+
+#[test]
+fn units_of_the_table() {
+    let of = |v: f32| unit(v.to_bits());
+    assert_eq!([0.03125, -0.03125, -0.0, 0.09375].map(of), [Ok(0), Ok(0), Ok(0), Ok(2)]);
+    assert_eq!(of(16383.96875), Err(number::OUT_OF_RANGE));
+    assert_eq!(of(-16384.03125), Ok(-262_144));
+    assert_eq!([f32::INFINITY, f32::NEG_INFINITY, f32::NAN].map(of), [Err(number::NOT_FINITE); 3]);
+    assert_eq!([f32::MAX, f32::MIN, 1e9].map(of), [Err(number::OUT_OF_RANGE); 3]);
+    assert_eq!([f32::MIN_POSITIVE, f32::from_bits(1), 1.0, -1.0].map(of), [Ok(0), Ok(0), Ok(16), Ok(-16)]);
+}
+
+#[test]
+fn pool_case() {
+    let mut pool = State::open(96, SCREEN, 2).unwrap();
+    let opened = pool.words();
+    assert_eq!(opened[..8], [64, 32, 4, 2, 2, 1, 8, 32]);
+    assert_eq!(opened[8..32], [0; 24]);
+    assert_eq!((opened.len(), opened[32], opened[63], opened[95]), (96, POISON, 2, 0));
+
+    assert_eq!(pool.bin(7, &[[0, 0]]), Ok([1, 1]));
+    let binned = pool.words();
+    assert_eq!((binned[4], binned[5], &binned[8..11], binned[32]), (1, 2, &[1, 1, 1][..], 7));
+    assert_eq!(pool.bin(9, &[[256, 256]]), Err(number::NO_ROOM));
+    assert_eq!(pool.words(), binned);
+    assert_eq!(State::read(&binned), Ok(pool.clone()));
+
+    assert_eq!(pool.release(0), Ok(1));
+    assert_eq!(pool.words(), opened);
+}
+
+#[test]
+fn open_refuses_in_order() {
+    let wide = Screen { width: 4096, height: 4096, s: 5 };
+    assert_eq!(State::open(0, wide, 2049), Err(number::SCREEN));
+    assert_eq!(State::open(0, SCREEN, 2049), Err(number::BLOCKS));
+    assert_eq!(State::open(95, SCREEN, 2), Err(number::SHORT));
+    assert!(State::open(12_296 + 65_536, Screen { s: 6, ..wide }, 2048).is_ok());
+}

@@ -1,0 +1,197 @@
+//! The calls on a pool, made on the archive and on the model side by side.
+
+use flourscoop::raw::{self, Answer};
+use flourscoop::Shape;
+use model::pool::{room, State};
+use model::screen::Screen;
+use model::{number, Pixel, Vertex};
+
+use crate::generate;
+use crate::hold::smaller_shapes;
+use crate::random::Random;
+
+/// A call on a pool.
+#[derive(Clone, PartialEq, Eq, Debug)]
+pub enum Call {
+    Open { screen: Screen, blocks: Blocks },
+    Audit,
+    Bin { id: u32, shape: Vec<Vertex> },
+    BinPixels { id: u32, shape: Vec<Pixel> },
+    Read { tile: u32, place: u32 },
+    Release { tile: u32 },
+}
+
+/// How many blocks an opening asks for: as many as the pool is made for, or a number.
+#[derive(Clone, Copy, PartialEq, Eq, Debug)]
+pub enum Blocks {
+    Own,
+    These(u32),
+}
+
+impl Blocks {
+    fn count(self, own: u32) -> u32 {
+        match self {
+            Blocks::Own => own,
+            Blocks::These(number) => number,
+        }
+    }
+}
+
+/// The number that a call returns and the values that it writes, zeros for those that it has not.
+pub type Outcome = [u32; 3];
+
+impl Call {
+    /// A call on a pool with this screen, at a tile of it.
+    pub fn make(random: &Random, screen: Screen) -> Call {
+        let tile = generate::tile(random, screen);
+        let other = random.pick(&[tile, tile, tile, tile, tile, tile, screen.tiles(), u32::MAX]);
+        match random.below(20) {
+            0..=7 => Call::Bin { id: generate::id(random), shape: shape(random, screen, tile) },
+            8..=11 => {
+                let shape = shape(random, screen, tile);
+                Call::BinPixels { id: generate::id(random), shape: generate::pixels(random, &shape) }
+            }
+            12..=14 => Call::Read { tile: other, place: random.pick(&[0, 0, 1, random.below(40), u32::MAX]) },
+            15..=17 => Call::Release { tile: other },
+            18 => Call::Audit,
+            _ => random
+                .pick(&[
+                    (screen, Blocks::Own),
+                    (generate::bad_screen(random), Blocks::Own),
+                    (generate::bad_screen(random), Blocks::These(2049)),
+                    (screen, Blocks::These(2049)),
+                    (screen, Blocks::These(u32::MAX)),
+                    (screen, Blocks::These(2048)),
+                ])
+                .into(),
+        }
+    }
+
+    /// The call with a smaller shape or a lower number.
+    pub fn smaller(&self) -> Vec<Call> {
+        match self {
+            Call::Bin { id, shape } => {
+                smaller_shapes(shape).into_iter().map(|shape| Call::Bin { id: *id, shape }).collect()
+            }
+            Call::BinPixels { id, shape } => {
+                let units = model::unit::units(shape);
+                units.into_iter().map(|shape| Call::Bin { id: *id, shape }).collect()
+            }
+            _ => Vec::new(),
+        }
+    }
+}
+
+impl From<(Screen, Blocks)> for Call {
+    fn from((screen, blocks): (Screen, Blocks)) -> Call {
+        Call::Open { screen, blocks }
+    }
+}
+
+/// A shape at a tile, out of range once in a while.
+fn shape(random: &Random, screen: Screen, tile: u32) -> Vec<Vertex> {
+    let shape = generate::shape(random, screen, tile);
+    if random.once_in(40) {
+        generate::out_of_range(random, shape)
+    } else {
+        shape
+    }
+}
+
+/// The model's screen, as the wrapper has it.
+pub fn screen_of(screen: Screen) -> flourscoop::Screen {
+    flourscoop::Screen { width: screen.width, height: screen.height, s: screen.s }
+}
+
+/// The model's shape in units, as the wrapper has it.
+pub fn shape_of(shape: &[Vertex]) -> Shape<flourscoop::Vertex> {
+    let vertices: Vec<_> = shape.iter().map(|&[x, y]| flourscoop::Vertex { x, y }).collect();
+    Shape::of(&vertices).unwrap()
+}
+
+/// The model's shape in pixels, as the wrapper has it.
+pub fn pixels_of(shape: &[Pixel]) -> Shape<flourscoop::Pixel> {
+    let pixel = |&[x, y]: &Pixel| flourscoop::Pixel { x: f32::from_bits(x), y: f32::from_bits(y) };
+    Shape::of(&shape.iter().map(pixel).collect::<Vec<_>>()).unwrap()
+}
+
+fn outcome<const VALUES: usize>(answer: Answer<VALUES>) -> Outcome {
+    let mut outcome = [answer.number, 0, 0];
+    outcome[1..=VALUES].copy_from_slice(&answer.values);
+    outcome
+}
+
+fn expected<const VALUES: usize>(answer: Result<[u32; VALUES], u32>) -> Outcome {
+    outcome(match answer {
+        Ok(values) => Answer { number: number::DONE, values },
+        Err(number) => Answer { number, values: [0; VALUES] },
+    })
+}
+
+/// Words lent to the archive, and what the model says of them.
+pub struct Slot {
+    pub words: Vec<u32>,
+    /// what the words say, where they are a sound pool
+    pub state: Option<State>,
+    blocks: u32,
+    expected: Vec<u32>,
+}
+
+impl Slot {
+    /// A slot of these words, in which `Blocks::Own` means so many blocks.
+    pub fn over(words: Vec<u32>, blocks: u32) -> Slot {
+        Slot { state: State::read(&words).ok(), expected: words.clone(), blocks, words }
+    }
+
+    fn on_archive(&mut self, call: &Call) -> Outcome {
+        let words = &mut self.words[..];
+        match call {
+            &Call::Open { screen, blocks } => outcome(raw::open(words, screen_of(screen), blocks.count(self.blocks))),
+            Call::Audit => outcome(raw::audit(words)),
+            Call::Bin { id, shape } => outcome(raw::bin(words, *id, shape_of(shape))),
+            Call::BinPixels { id, shape } => outcome(raw::bin_pixels(words, *id, pixels_of(shape))),
+            &Call::Read { tile, place } => outcome(raw::read(words, tile, place)),
+            &Call::Release { tile } => outcome(raw::release(words, tile)),
+        }
+    }
+
+    fn on_model(&mut self, call: &Call) -> Outcome {
+        if let &Call::Open { screen, blocks } = call {
+            let opened = State::open(self.words.len(), screen, blocks.count(self.blocks));
+            let answer = opened.map(|state| {
+                self.state = Some(state);
+                []
+            });
+            return expected(answer);
+        }
+        let Some(state) = &mut self.state else {
+            return [number::UNSOUND, 0, 0];
+        };
+        match call {
+            Call::Open { .. } | Call::Audit => expected(Ok([])),
+            Call::Bin { id, shape } => expected(state.bin(*id, shape)),
+            Call::BinPixels { id, shape } => expected(state.bin_pixels(*id, shape)),
+            &Call::Read { tile, place } => expected(state.id_at(tile, place).map(|id| [id])),
+            &Call::Release { tile } => expected(state.release(tile).map(|blocks| [blocks])),
+        }
+    }
+
+    /// Makes the call on both sides and compares the outcome and every word.
+    pub fn call(&mut self, call: &Call) -> Result<Outcome, String> {
+        let (archive, model) = (self.on_archive(call), self.on_model(call));
+        if let Some(state) = &self.state {
+            self.expected[..room(state.screen, state.blocks)].copy_from_slice(&state.words());
+        }
+        if archive != model {
+            return Err(format!("{call:?}: the archive gives {archive:?}, the model {model:?}"));
+        }
+        let differs = (0..self.words.len()).find(|&at| self.words[at] != self.expected[at]);
+        match differs {
+            Some(at) => Err(format!(
+                "{call:?}: word {at} is {:#x} in the archive's pool, {:#x} in the model's",
+                self.words[at], self.expected[at]
+            )),
+            None => Ok(archive),
+        }
+    }
+}

@@ -1,0 +1,180 @@
+//! Screens, shapes and pools, most of them where an answer turns.
+
+use model::pool::{State, Tile, IDS_OF_BLOCK, MOST_ID};
+use model::screen::{Rectangle, Screen};
+use model::{Pixel, Vertex, UNITS};
+
+use crate::random::Random;
+
+/// A screen within the rules, of at most so many columns and rows; its last tiles often reach past the glass.
+pub fn screen(random: &Random, most: u32) -> Screen {
+    let s = random.from_to(3, 6) as u32;
+    let extent = || {
+        let tiles = 1 + random.below(most.min(4096 >> s).min(64));
+        (tiles << s) - random.pick(&[0, 0, 1, 7, random.below(1 << s)]).min((1 << s) - 1)
+    };
+    Screen { width: extent(), height: extent(), s }
+}
+
+/// A screen that breaks a rule.
+pub fn bad_screen(random: &Random) -> Screen {
+    let (width, height, s) = random.pick(&[
+        (0, 32, 4),
+        (32, 0, 4),
+        (4097, 32, 4),
+        (32, 4097, 4),
+        (64, 64, 2),
+        (64, 64, 7),
+        (4096, 4096, 5),
+        (4096, 2049, 5),
+        (513, 4096, 3),
+        (u32::MAX, u32::MAX, u32::MAX),
+        (1, 1, 32),
+    ]);
+    Screen { width, height, s }
+}
+
+/// A tile of the screen; the first and the last more often.
+pub fn tile(random: &Random, screen: Screen) -> u32 {
+    let any = random.below(screen.tiles());
+    random.pick(&[any, any, any, 0, screen.tiles() - 1])
+}
+
+/// A coordinate on one of two sides of a tile, beside it, or between.
+fn near(random: &Random, low: i64, high: i64) -> i32 {
+    let (low, high) = (low as i32, high as i32);
+    let side = random.pick(&[low, high]);
+    let between = random.from_to(low, high);
+    let step = random.pick(&[-1, 1]);
+    random.pick(&[side, side, side + step, between, between, side + step * random.from_to(0, 2 * (high - low))])
+}
+
+/// A coordinate anywhere in range; its ends more often.
+fn far(random: &Random) -> i32 {
+    let (low, high) = (*UNITS.start(), *UNITS.end());
+    let any = random.from_to(low, high);
+    random.pick(&[any, any, low, high, low + 1, high - 1])
+}
+
+/// `from` plus `times` times `step`, or `from` where that is out of range.
+fn along(from: Vertex, step: [i64; 2], times: i64) -> Vertex {
+    let to = [0, 1].map(|axis| i32::try_from(i64::from(from[axis]) + times * step[axis]));
+    match to {
+        [Ok(x), Ok(y)] if UNITS.contains(&x) && UNITS.contains(&y) => [x, y],
+        _ => from,
+    }
+}
+
+/// A shape of so many vertices that meets a tile in a corner or in part of a side: a point there, a line, or a triangle
+/// of which an edge is that line and the third vertex lies on it or on the side away from the tile.
+fn against(random: &Random, rectangle: Rectangle, vertices: usize) -> Vec<Vertex> {
+    let reach = random.pick(&[1, 3, 40, 5000, 262_143]);
+    let sides = [[rectangle.left, rectangle.right], [rectangle.top, rectangle.bottom]];
+    // where the line meets the tile, and its normal there, which points away from the tile
+    let (mut corner, mut away) = ([0; 2], [0; 2]);
+    for axis in 0..2 {
+        let slant = random.from_to(-reach, reach);
+        let [low, high] = sides[axis].map(|side| side as i32);
+        away[axis] = i64::from(slant);
+        corner[axis] = match slant.signum() {
+            -1 => low,
+            0 => random.from_to(low, high),
+            _ => high,
+        };
+    }
+    let on_line = [away[1], -away[0]];
+    let times = || i64::from(random.below(random.pick(&[2, 40, 5000])));
+    let one = along(corner, on_line, times());
+    let other = along(corner, on_line, -times());
+    let beyond = |vertex: &Vertex| {
+        let outwards = |axis: usize| i64::from(vertex[axis] - corner[axis]) * away[axis];
+        outwards(0) + outwards(1) >= 0
+    };
+    let far_away = (0..8).map(|_| [far(random), far(random)]).find(beyond).unwrap_or(corner);
+    let third = random.pick(&[one, along(along(corner, away, times()), on_line, times()), far_away, far_away]);
+    match vertices {
+        1 => vec![corner],
+        2 => vec![one, other],
+        _ => vec![one, other, third],
+    }
+}
+
+/// A shape in range that lies at a tile so that its answer often turns on one unit.
+pub fn shape(random: &Random, screen: Screen, tile: u32) -> Vec<Vertex> {
+    let rectangle = screen.rectangle(tile);
+    let beside = || [near(random, rectangle.left, rectangle.right), near(random, rectangle.top, rectangle.bottom)];
+    let anywhere = || [far(random), far(random)];
+    let vertices = random.pick(&[1, 2, 2, 3, 3, 3]);
+    let mut shape = match random.below(16) {
+        0 => (0..vertices).map(|_| anywhere()).collect(),
+        1 => (0..vertices).map(|_| random.pick(&[beside(), beside(), anywhere()])).collect(),
+        2 | 3 => (0..vertices).map(|_| beside()).collect(),
+        _ => against(random, rectangle, vertices),
+    };
+    // one unit off
+    if random.once_in(3) {
+        let vertex = random.below(vertices as u32) as usize;
+        let axis = random.below(2) as usize;
+        shape[vertex][axis] = (shape[vertex][axis] + random.pick(&[-1, 1])).clamp(*UNITS.start(), *UNITS.end());
+    }
+    random.shuffle(&mut shape);
+    shape
+}
+
+/// The shape with one coordinate out of range.
+pub fn out_of_range(random: &Random, mut shape: Vec<Vertex>) -> Vec<Vertex> {
+    let vertex = random.below(shape.len() as u32) as usize;
+    shape[vertex][random.below(2) as usize] = random.pick(&[*UNITS.start() - 1, *UNITS.end() + 1, i32::MIN, i32::MAX]);
+    shape
+}
+
+/// The pixels of a shape in units, some of them up to half a unit off, or no number at all.
+pub fn pixels(random: &Random, shape: &[Vertex]) -> Vec<Pixel> {
+    let strange = [f32::NAN, f32::INFINITY, f32::NEG_INFINITY, f32::MAX, -16384.0625, 16384.0, f32::MIN_POSITIVE];
+    let pixel = |unit: i32| {
+        let exact = unit as f32 / 16.0;
+        let half = random.pick(&[-1.0, 1.0]) / 32.0;
+        let bits = random.pick(&[exact, exact, exact, exact + half]).to_bits();
+        // the next f32 on either side, where there is one
+        let beside = bits.wrapping_add(random.pick(&[0, 0, 1, u32::MAX]));
+        if random.once_in(40) {
+            random.pick(&strange).to_bits()
+        } else {
+            beside
+        }
+    };
+    shape.iter().map(|vertex| vertex.map(pixel)).collect()
+}
+
+/// An id, sometimes one of the last and, once in a while, one too many.
+pub fn id(random: &Random) -> u32 {
+    let any = random.below(MOST_ID + 1);
+    match random.below(60) {
+        0 => random.pick(&[MOST_ID + 1, u32::MAX, 0xDEAD_BEEF]),
+        1 => MOST_ID,
+        2 => 0,
+        _ => any,
+    }
+}
+
+/// The state of a sound pool: chains of up to three blocks, in any order of blocks.
+pub fn state(random: &Random) -> State {
+    let screen = screen(random, 5);
+    let most = random.pick(&[3, 12, 40]);
+    let blocks = random.below(most);
+    let mut state = State::opened(screen, blocks);
+    random.shuffle(state.free.make_contiguous());
+    for tile in &mut state.tiles {
+        let chain = random.pick(&[0, 0, 1, 1, 2, 3]);
+        if chain == 0 || chain > state.free.len() {
+            continue;
+        }
+        let full = IDS_OF_BLOCK * chain;
+        let entries = full - random.pick(&[0, 1, 29, 30, random.below(31) as usize]);
+        *tile = Tile {
+            blocks: state.free.drain(..chain).collect(),
+            ids: (0..entries).map(|_| random.pick(&[0, MOST_ID, random.below(MOST_ID)])).collect(),
+        };
+    }
+    state
+}

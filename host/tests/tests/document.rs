@@ -1,0 +1,81 @@
+//! What document 01 lists, by the wrapper.
+
+use flourscoop::{box_touches, corner_touches, room, Binned, Pixel, Pool, Refusal, Screen, Shape, Vertex};
+use model::marked::{MARKED, SCREEN};
+use tests::call::{screen_of, shape_of};
+
+const fn point(x: i32, y: i32) -> Shape<Vertex> {
+    Shape::Point(Vertex { x, y })
+}
+
+#[test]
+fn marked_cases() {
+    let screen = screen_of(SCREEN);
+    for case in MARKED {
+        let shape = shape_of(case.shape);
+        let mut words = vec![0; room(screen, 8)];
+        let mut pool = Pool::open(&mut words, screen, 8).unwrap();
+        let tiles = case.tiles.len() as u32;
+        assert_eq!(pool.bin(77, shape), Ok(Binned { tiles, blocks: tiles }), "{}", case.name);
+        for tile in 0..8 {
+            let listed = case.tiles.contains(&tile);
+            assert_eq!(pool.read(tile, 0), if listed { Ok(77) } else { Err(Refusal::NoPlace) }, "{}", case.name);
+            assert_eq!(corner_touches(screen, tile, shape), Ok(listed), "{}", case.name);
+            assert_eq!(box_touches(screen, tile, shape), Ok(case.boxed.contains(&tile)), "{}", case.name);
+        }
+    }
+}
+
+#[test]
+fn a_tile_past_the_glass_is_full_size() {
+    assert_eq!(corner_touches(Screen { width: 60, height: 32, s: 4 }, 3, point(1000, 10)), Ok(true));
+}
+
+#[test]
+fn the_box_of_a_negative_point_gains_no_tile() {
+    assert_eq!(box_touches(screen_of(SCREEN), 0, point(-1, 10)), Ok(false));
+}
+
+#[test]
+fn pool_case() {
+    let screen = screen_of(SCREEN);
+    assert_eq!(room(screen, 2), 96);
+    let mut words = [0; 96];
+    let mut pool = Pool::open(&mut words, screen, 2).unwrap();
+    assert_eq!(pool.words()[..8], [64, 32, 4, 2, 2, 1, 8, 32]);
+    let opened = pool.words().to_vec();
+
+    assert_eq!(pool.bin(7, point(0, 0)), Ok(Binned { tiles: 1, blocks: 1 }));
+    assert_eq!(pool.words()[4..6], [1, 2]);
+    let binned = pool.words().to_vec();
+    assert_eq!(pool.bin(9, point(256, 256)), Err(Refusal::NoRoom));
+    assert_eq!(pool.words(), binned);
+    assert_eq!(pool.read(0, 0), Ok(7));
+    assert_eq!(pool.read(0, 1), Err(Refusal::NoPlace));
+    assert_eq!(pool.read(8, 0), Err(Refusal::NoTile));
+
+    assert_eq!(pool.release(0), Ok(1));
+    assert_eq!(pool.words(), opened);
+    assert_eq!(pool.release(0), Ok(0));
+    assert!(pool.is_sound());
+}
+
+#[test]
+fn units_of_the_table() {
+    let screen = screen_of(SCREEN);
+    let mut words = vec![0; room(screen, 8)];
+    Pool::open(&mut words, screen, 8).unwrap();
+    let binned = |bin: &dyn Fn(&mut Pool) -> Result<Binned, Refusal>| {
+        let mut words = words.clone();
+        (bin(&mut Pool::over(&mut words)), words)
+    };
+    for (x, unit) in [(0.03125, 0), (-0.03125, 0), (-0.0, 0), (0.09375, 2), (-16384.03125, -262_144)] {
+        let pixels = Shape::Line(Pixel { x, y: 4.0 }, Pixel { x: 20.0, y: 4.0 });
+        let units = Shape::Line(Vertex { x: unit, y: 64 }, Vertex { x: 320, y: 64 });
+        assert_eq!(binned(&|pool| pool.bin_pixels(1, pixels)), binned(&|pool| pool.bin(1, units)));
+    }
+    let refused = |x| binned(&|pool| pool.bin_pixels(1, Shape::Point(Pixel { x, y: f32::NAN }))).0;
+    assert_eq!(refused(16383.96875), Err(Refusal::OutOfRange));
+    assert_eq!(refused(f32::INFINITY), Err(Refusal::NotFinite));
+    assert_eq!(refused(0.0), Err(Refusal::NotFinite));
+}

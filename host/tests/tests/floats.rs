@@ -1,0 +1,142 @@
+//! From f32 to units, seen through bin. A line that passes through the point in which four tiles meet is listed in all
+//! four; with one end a unit off it misses that point, and at least one of the tiles. So for each f32 there is a line
+//! that is listed four times exactly if the f32 goes to the unit that the model computes.
+
+use std::thread;
+
+use flourscoop::raw::{self, Answer};
+use model::pool::State;
+use model::screen::Screen;
+use model::touch::touched;
+use model::unit::unit;
+use model::{Vertex, UNITS};
+use tests::call::pixels_of;
+use tests::hold::{hold, Case};
+use tests::random::Random;
+
+const SCREEN: Screen = Screen { width: 16, height: 16, s: 3 };
+
+/// Both coordinates of the point in which the four tiles of the screen meet.
+const MEETING: i32 = 128;
+
+const ID: u32 = 5;
+
+/// A diagonal line through the meeting point whose first x is this unit, and which ends one unit past the point.
+fn diagonal(unit: i32) -> [Vertex; 2] {
+    let gap = MEETING - unit;
+    [[unit, MEETING - gap.abs()], [MEETING + gap.signum(), MEETING + 1]]
+}
+
+/// The words of a pool of four blocks, opened and with the id in each of its four tiles.
+struct Images {
+    opened: Vec<u32>,
+    listed: Vec<u32>,
+}
+
+impl Images {
+    fn new() -> Images {
+        let mut state = State::opened(SCREEN, 4);
+        let opened = state.words();
+        assert_eq!(state.bin(ID, &[[MEETING, MEETING]]), Ok([4, 4]));
+        Images { opened, listed: state.words() }
+    }
+
+    /// Bins the diagonal whose first x is the unit of these bits, its first coordinate given as the bits themselves; with
+    /// x and y exchanged where `mirrored`.
+    fn check(&self, bits: u32, mirrored: bool) -> Result<(), String> {
+        let expected = unit(bits);
+        let line = diagonal(expected.unwrap_or(0)).map(|vertex| vertex.map(|unit| (unit as f32 / 16.0).to_bits()));
+        let [[_, y1], end] = line;
+        let mut pixels = [[bits, y1], end];
+        if mirrored {
+            pixels.iter_mut().for_each(|pixel| pixel.reverse());
+        }
+        let mut words = self.opened.clone();
+        let archive = raw::bin_pixels(&mut words, ID, pixels_of(&pixels));
+        let (model, image) = match expected {
+            Ok(_) => (Answer { number: 0, values: [4, 4] }, &self.listed),
+            Err(number) => (Answer { number, values: [0, 0] }, &self.opened),
+        };
+        if archive != model || words != *image {
+            return Err(format!(
+                "bits {bits:#010x}, that is {:?}, {} of a line: the archive gives {archive:?}, the model {model:?} for {expected:?}",
+                f32::from_bits(bits),
+                if mirrored { "first y" } else { "first x" },
+            ));
+        }
+        Ok(())
+    }
+}
+
+thread_local! {
+    static IMAGES: Images = Images::new();
+}
+
+/// A bit pattern, tried as x and as y.
+#[derive(Clone, Debug)]
+struct Pattern(u32);
+
+impl Case for Pattern {
+    type Seen = ();
+
+    /// First the patterns whose lower half is zero; then, in turn, any pattern, and one that is near a multiple of a 64th
+    /// of a unit and at most a unit out of range.
+    fn make(random: &Random, place: u64) -> Pattern {
+        let any = random.word() as u32;
+        Pattern(match place {
+            0..0x1_0000 => (place as u32) << 16,
+            _ if place % 2 == 0 => any,
+            _ => (random.from_to(-(1 << 24) - 64, (1 << 24) + 64) as f32 / 1024.0).to_bits() ^ (any & 3),
+        })
+    }
+
+    fn smaller(&self) -> Vec<Pattern> {
+        [self.0 & 0xffff_0000, self.0 & 0xffff_ff00, self.0 & (self.0.wrapping_sub(1))]
+            .into_iter()
+            .filter(|&bits| bits != self.0)
+            .map(Pattern)
+            .collect()
+    }
+
+    fn run(&self) -> Result<(), String> {
+        IMAGES.with(|images| images.check(self.0, false).and_then(|()| images.check(self.0, true)))
+    }
+}
+
+#[test]
+fn a_unit_off_misses_a_tile() {
+    let ends = [*UNITS.start(), *UNITS.start() + 1, -1, 0, 1, 127, 128, 129, *UNITS.end() - 1];
+    let random = Random::new(0xF100_0004);
+    for unit in (0..2000).map(|_| random.from_to(*UNITS.start(), *UNITS.end())).chain(ends) {
+        let line = diagonal(unit);
+        assert!(model::touch::in_range(&line));
+        assert_eq!(touched(SCREEN, &line), [0, 1, 2, 3]);
+        for off in [unit - 1, unit + 1] {
+            assert!(touched(SCREEN, &[[off, line[0][1]], line[1]]).len() < 4, "{unit} and {off}");
+        }
+    }
+}
+
+#[test]
+fn units_are_the_model_s() {
+    hold(0xF100_0005, 0x1_0000 + 2_000_000, |_: &Pattern, ()| ());
+}
+
+/// All 2^32 patterns, as x: `cargo test -p tests --test floats -- --ignored --nocapture`.
+#[test]
+#[ignore]
+fn units_of_all_patterns_are_the_model_s() {
+    let threads = thread::available_parallelism().map_or(1, |threads| threads.get() as u64);
+    let share = (1u64 << 32).div_ceil(threads);
+    thread::scope(|scope| {
+        for first in (0..1u64 << 32).step_by(share as usize) {
+            scope.spawn(move || {
+                let images = Images::new();
+                for bits in first..(first + share).min(1 << 32) {
+                    images.check(bits as u32, false).unwrap();
+                }
+                println!("{:#x} patterns from {first:#x} hold", share);
+            });
+        }
+    });
+}

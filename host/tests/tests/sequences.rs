@@ -1,0 +1,141 @@
+//! Mixed calls on two pools of different sizes: every answer and every word against the model, and demand 3.
+
+use model::number;
+use model::pool::{block_at, room, State, IDS_OF_BLOCK, POISON};
+use model::screen::Screen;
+use tests::call::{Blocks, Call, Slot};
+use tests::generate;
+use tests::hold::{each_smaller, fewer, hold, smaller_screens, Case};
+use tests::random::Random;
+
+/// Calls on two pools for one screen, the second with at least as many blocks as the first.
+#[derive(Clone, Debug)]
+struct Sequence {
+    screen: Screen,
+    blocks: [u32; 2],
+    /// words past the room that each pool needs
+    tails: [usize; 2],
+    calls: Vec<Repeated>,
+}
+
+/// A call, made so many times.
+#[derive(Clone, Debug)]
+struct Repeated(u32, Call);
+
+impl Repeated {
+    fn smaller(&self) -> Vec<Repeated> {
+        let Repeated(times, call) = self;
+        let fewer = [1, times / 2, times - 1].into_iter().filter(|fewer| (1..*times).contains(fewer));
+        let mut all: Vec<_> = fewer.map(|fewer| Repeated(fewer, call.clone())).collect();
+        all.extend(call.smaller().into_iter().map(|call| Repeated(*times, call)));
+        all
+    }
+}
+
+impl Case for Sequence {
+    /// the numbers that the calls on the first pool returned
+    type Seen = Vec<u32>;
+
+    fn make(random: &Random, place: u64) -> Sequence {
+        // one in a thousand is as large as a pool can be
+        let large = place % 1000 == 0;
+        let screen = generate::screen(random, if large { 64 } else { 4 });
+        let first = random.below(if large { 1025 } else { 24 });
+        let extra = 1 + random.below(if large { 1024 } else { 12 });
+        let early = random.pick(&[0, 0, 0, 0, 0, 0, 0, 1, 3]);
+        let mut calls: Vec<_> = (0..early).map(|_| Repeated(1, Call::make(random, screen))).collect();
+        calls.push(Repeated(1, Call::Open { screen, blocks: Blocks::Own }));
+        for _ in 0..2 + random.below(14) {
+            // the same call again and again makes long chains
+            let times = random.pick(&[1, 1, 1, 1, 1, 1, 1, 2, 3, 31, 34]);
+            calls.push(Repeated(times, Call::make(random, screen)));
+        }
+        let tails = [random.below(4) as usize, random.below(4) as usize];
+        Sequence { screen, blocks: [first, first + extra], tails, calls }
+    }
+
+    fn smaller(&self) -> Vec<Sequence> {
+        let with_calls = |calls| Sequence { calls, ..self.clone() };
+        let blocks = [[self.blocks[0] / 2, self.blocks[1]], [self.blocks[0], self.blocks[0]]];
+        let with_blocks = |blocks| Sequence { blocks, ..self.clone() };
+        let mut all: Vec<_> = fewer(&self.calls).into_iter().map(with_calls).collect();
+        all.extend(smaller_screens(self.screen).into_iter().map(|screen| self.on(screen)));
+        all.extend(blocks.into_iter().filter(|&fewer| fewer != self.blocks).map(with_blocks));
+        all.extend(each_smaller(&self.calls, Repeated::smaller).into_iter().map(with_calls));
+        all
+    }
+
+    /// Makes each call on the first pool and, unless that refused it with 8, on the second.
+    fn run(&self) -> Result<Vec<u32>, String> {
+        let (mut first, mut second) = (self.slot(0), self.slot(1));
+        let mut numbers = Vec::new();
+        let calls = self.calls.iter().flat_map(|Repeated(times, call)| std::iter::repeat_n(call, *times as usize));
+        for call in calls {
+            let answer = first.call(call).map_err(|wrong| format!("first pool: {wrong}"))?;
+            numbers.push(answer[0]);
+            if answer[0] != number::NO_ROOM {
+                let shared = second.call(call).map_err(|wrong| format!("second pool: {wrong}"))?;
+                if shared != answer {
+                    return Err(format!("{call:?}: the first pool answers {answer:?}, the second {shared:?}"));
+                }
+            }
+            self.agree(&first, &second).map_err(|wrong| format!("after {call:?}: {wrong}"))?;
+        }
+        for slot in [first, second] {
+            if State::read(&slot.words).ok() != slot.state {
+                return Err("the words do not say what the model's state is".into());
+            }
+        }
+        Ok(numbers)
+    }
+}
+
+impl Sequence {
+    /// The same on another screen.
+    fn on(&self, screen: Screen) -> Sequence {
+        let mut other = Sequence { screen, ..self.clone() };
+        for Repeated(_, call) in &mut other.calls {
+            match call {
+                Call::Open { screen: opened, .. } if *opened == self.screen => *opened = screen,
+                _ => {}
+            }
+        }
+        other
+    }
+
+    /// A pool's slot before it is opened: words that say nothing.
+    fn slot(&self, pool: usize) -> Slot {
+        let words = room(self.screen, self.blocks[pool]) + self.tails[pool];
+        Slot::over((0..words as u32).map(|at| at.wrapping_mul(0x9E37_79B9)).collect(), self.blocks[pool])
+    }
+
+    /// Demand 3 of two pools that are opened: all lists agree, the second has more free blocks by the difference at the
+    /// opening, and the id places of its extra blocks hold poison.
+    fn agree(&self, first: &Slot, second: &Slot) -> Result<(), String> {
+        let (Some(one), Some(two)) = (&first.state, &second.state) else {
+            return Ok(());
+        };
+        if one.tiles.iter().zip(&two.tiles).any(|(one, two)| one.ids != two.ids) {
+            return Err("the lists differ".into());
+        }
+        if second.words[4] - first.words[4] != two.blocks - one.blocks {
+            return Err(format!("the first has {} free blocks, the second {}", first.words[4], second.words[4]));
+        }
+        let ids = |block| {
+            let at = block_at(two.screen, block);
+            &second.words[at..at + IDS_OF_BLOCK]
+        };
+        match (one.blocks..two.blocks).find(|&block| ids(block).iter().any(|&word| word != POISON)) {
+            Some(block) => Err(format!("extra block {block} holds an id")),
+            None => Ok(()),
+        }
+    }
+}
+
+#[test]
+fn two_pools_answer_and_hold_as_the_model() {
+    let mut numbers = [0u64; 11];
+    hold(0xF100_0002, 20_000, |_: &Sequence, seen| seen.iter().for_each(|&number| numbers[number as usize] += 1));
+    println!("calls on the first pool, by the number that they return: {numbers:?}");
+    assert!(numbers.iter().all(|&calls| calls > 500), "each number should be returned often");
+}

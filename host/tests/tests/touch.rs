@@ -1,0 +1,111 @@
+//! Box and corner against the model, on shapes most of which lie where the answer turns.
+
+use flourscoop::raw::{self, Answer};
+use model::screen::{Rectangle, Screen};
+use model::touch::{box_meets, question, touches};
+use model::Vertex;
+use tests::call::{screen_of, shape_of};
+use tests::generate;
+use tests::hold::{hold, smaller_screens, smaller_shapes, Case};
+use tests::random::Random;
+
+#[derive(Clone, Debug)]
+struct Question {
+    screen: Screen,
+    tile: u32,
+    shape: Vec<Vertex>,
+}
+
+/// What the model answers.
+struct Seen {
+    boxed: Result<bool, u32>,
+    touched: Result<bool, u32>,
+}
+
+impl Case for Question {
+    type Seen = Seen;
+
+    fn make(random: &Random, _place: u64) -> Question {
+        let most = random.pick(&[2, 6, 64]);
+        let screen = generate::screen(random, most);
+        let tile = generate::tile(random, screen);
+        let shape = generate::shape(random, screen, tile);
+        let question = Question { screen, tile, shape };
+        match random.below(50) {
+            0 => Question { screen: generate::bad_screen(random), ..question },
+            1 => Question { tile: screen.tiles() + random.pick(&[0, 1, 4096, u32::MAX - 4096]), ..question },
+            2 => Question { shape: generate::out_of_range(random, question.shape), ..question },
+            _ => question,
+        }
+    }
+
+    fn smaller(&self) -> Vec<Question> {
+        if !self.screen.allowed() {
+            return Vec::new();
+        }
+        let tiles = [0, self.tile / 2, self.tile.saturating_sub(1)].into_iter().filter(|&tile| tile < self.tile);
+        let mut all: Vec<_> = tiles.map(|tile| Question { tile, ..self.clone() }).collect();
+        all.extend((self.tile > 0).then(|| self.at_first_tile()));
+        all.extend(smaller_screens(self.screen).into_iter().map(|screen| Question { screen, ..self.clone() }));
+        all.extend(smaller_shapes(&self.shape).into_iter().map(|shape| Question { shape, ..self.clone() }));
+        all
+    }
+
+    fn run(&self) -> Result<Seen, String> {
+        let ask = |way| question(self.screen, self.tile, &self.shape, way);
+        let expected = |answer| match answer {
+            Ok(touches) => Answer { number: 0, values: [u32::from(touches)] },
+            Err(number) => Answer { number, values: [0] },
+        };
+        let seen = Seen { boxed: ask(box_meets), touched: ask(touches) };
+        let (screen, shape) = (screen_of(self.screen), shape_of(&self.shape));
+        let ways = [
+            ("box", raw::box_touches(screen, self.tile, shape), expected(seen.boxed)),
+            ("corner", raw::corner_touches(screen, self.tile, shape), expected(seen.touched)),
+        ];
+        match ways.into_iter().find(|(_, archive, model)| archive != model) {
+            Some((way, archive, model)) => Err(format!("{way}: the archive gives {archive:?}, the model {model:?}")),
+            None => Ok(seen),
+        }
+    }
+}
+
+impl Question {
+    /// The shape as it lies at its tile, at tile 0.
+    fn at_first_tile(&self) -> Question {
+        let Rectangle { left, top, .. } = self.screen.rectangle(self.tile);
+        let moved = |&[x, y]: &Vertex| [x.wrapping_sub(left as i32), y.wrapping_sub(top as i32)];
+        Question { tile: 0, shape: self.shape.iter().map(moved).collect(), ..self.clone() }
+    }
+
+    /// Whether a step of one unit by one of the vertices changes the answer.
+    fn turns_on_a_unit(&self) -> bool {
+        let rectangle = self.screen.rectangle(self.tile);
+        let answer = touches(&self.shape, rectangle);
+        let steps = (0..self.shape.len()).flat_map(|vertex| [[0, 1], [1, 0], [0, -1], [-1, 0]].map(|by| (vertex, by)));
+        steps.into_iter().any(|(vertex, [x, y])| {
+            let mut moved = self.shape.clone();
+            moved[vertex] = [moved[vertex][0] + x, moved[vertex][1] + y];
+            touches(&moved, rectangle) != answer
+        })
+    }
+}
+
+#[test]
+fn box_and_corner_answer_as_the_model() {
+    let (mut asked, mut refused, mut boxed, mut touched, mut looked_at, mut turning) = (0, 0, 0, 0, 0, 0);
+    hold(0xF100_0001, 1_000_000, |case: &Question, seen| {
+        asked += 2;
+        refused += 2 * i32::from(seen.touched.is_err());
+        boxed += i32::from(seen.boxed == Ok(true));
+        touched += i32::from(seen.touched == Ok(true));
+        if asked % 100 == 0 && seen.touched.is_ok() {
+            looked_at += 1;
+            turning += i32::from(case.turns_on_a_unit());
+        }
+    });
+    println!("{asked} questions, {refused} refused; box says yes {boxed} times, corner {touched} times");
+    println!("of {looked_at} shapes looked at, {turning} change their answer with one unit of one vertex");
+    assert!(turning * 2 > looked_at, "most shapes should lie where the answer turns");
+    assert!(boxed - touched > 50_000, "the box should often say yes wrongly");
+}

@@ -55,29 +55,30 @@ module _ {L : Layout} {T N : ℕ} {p : List ℕ} {s : State} (A : Fair L) (R : S
       let other : (u : ℕ) → u < T → u ≢ t → (i : ℕ) → i < L .tile → tileWord L (release L T p t) u i ≡ tileWord L p u i
       = (λ u hu ne i hi. simp (tile-set-other-tile L) (E .tiles u hu i hi)) in
       let same : (b : ℕ) → times b (x .blocks) ≡ 0 → Same (L .ids) (blockWord L T p) (blockWord L T (release L T p t)) b
-      = (λ b z j hj. simp (block-tileSet L T) (E .blocks b z j hj)) in
-      (shows-set R _ t empty (onto (x .blocks) (s .free)) ht
-      (simp (header-tileSet L) (E .count))
-      (simp (header-tileSet L) (E .first))
-      (frame (L .ids) (L .poison) (blockWord L T G) _ (onto (x .blocks) (s .free)) [] (λ b hb j hj. simp (block-tileSet L T)) (E .poisoned))
-      (record {
-        entries = simp (tile-set-other-word L) (tile-set L T _ t 0 0 lb ht tile0);
-        first = simp (tile-set-other-word L) (tile-set L T _ t 1 0 (simp (length-tileSet L) lb) ht tile1);
-        last = tile-set L T _ t 2 0 (simp (length-tileSet L) lb) ht tile2;
-        many = sym (ceil-none (L .ids) (A .ids>));
-        in-range = λ i hi. absurd (not-suc-le-zero hi);
-        held = tt;
-      })
-      (λ u hu ne. tile-frame A (other u hu ne) (λ b hb. same b (apart R u t b (λ z. ne (sym z)) hb)) (R .tile u hu))
-      (λ b. omega (arith, times-onto b (x .blocks) (s .free))),
-      record {
-        long = W .keeps .long;
-        header = W .keeps .fixed;
-        tiles = λ u hu z. other u hu (λ e. times-differ t u (t ∷ []) (times-head t []) z (sym e));
-        blocks = λ u hu z b hb. same b (apart R u t b (times-differ t u (t ∷ []) (times-head t []) z) hb);
-        free = λ b hb hb′. same b (free-apart R t b hb);
-        tail = W .tail;
-      })
+      = (λ b z j hj. simp (block-tileSet L T) (E .blocks b z j hj)) in (
+        shows-set R _ t empty (onto (x .blocks) (s .free)) ht
+            (simp (header-tileSet L) (E .count))
+            (simp (header-tileSet L) (E .first))
+            (frame (L .ids) (L .poison) (blockWord L T G) _ (onto (x .blocks) (s .free)) [] (λ b hb j hj. simp (block-tileSet L T)) (E .poisoned))
+            (record {
+              entries = simp (tile-set-other-word L) (tile-set L T _ t 0 0 lb ht tile0);
+              first = simp (tile-set-other-word L) (tile-set L T _ t 1 0 (simp (length-tileSet L) lb) ht tile1);
+              last = tile-set L T _ t 2 0 (simp (length-tileSet L) lb) ht tile2;
+              many = sym (ceil-none (L .ids) (A .ids>));
+              in-range = λ i hi. absurd (not-suc-le-zero hi);
+              held = tt;
+            })
+            (λ u hu ne. tile-frame A (other u hu ne) (λ b hb. same b (apart R u t b (λ z. ne (sym z)) hb)) (R .tile u hu))
+            (λ b. omega (arith, times-onto b (x .blocks) (s .free))),
+        record {
+          long = W .keeps .long;
+          header = W .keeps .fixed;
+          tiles = λ u hu z. other u hu (λ e. times-differ t u (t ∷ []) (times-head t []) z (sym e));
+          blocks = λ u hu z b hb. same b (apart R u t b (times-differ t u (t ∷ []) (times-head t []) z) hb);
+          free = λ b hb hb′. same b (free-apart R t b hb);
+          tail = W .tail;
+        },
+      )
 
 pub release-releases : {L : Layout} {p : List ℕ} → Fair L → (S : Sound L p) (t : ℕ) → t < tilesOf p → Released L p S (release L (tilesOf p) p t) t
 release-releases {L} {p} A S t ht =

@@ -32,20 +32,21 @@ fn share(q: usize) -> usize
     if q < BLOCK_IDS { q } else { BLOCK_IDS }
 }
 
-// Puts the list of a tile of a sound pool, whose blocks start at `start`, at the start of `ids`, and answers how many ids there are.
-pub fn tile_ids(pool: &[u32], start: usize, tile: Tile, ids: &mut [u32]) -> usize
+// Puts the list of a tile of a sound pool, whose blocks start at `from`, at the start of `ids`, and answers how many ids there are.
+pub fn tile_ids(pool: &[u32], from: usize, tile: Tile, ids: &mut [u32]) -> usize
     requires { ⌜ Sound edition (now pool) ⌝ }
-    requires { ⌜ (start ≡ start edition (tilesOf (now pool))) × (tile .0 < tilesOf (now pool)) ⌝ }
+    requires { ⌜ (from ≡ start edition (tilesOf (now pool))) × (tile .0 < tilesOf (now pool)) ⌝ }
     requires { ⌜ length (listOf edition (tilesOf (now pool)) (now pool) (tile .0)) ≤ length (now ids) ⌝ }
     ensures within { λ r. ⌜ r ≤ length (now (ids .exit)) ⌝ }
     ensures whole { λ r. ⌜ take r (now (ids .exit)) ≡ listOf edition (tilesOf (now (pool .entry))) (now (pool .entry)) (tile .0) ⌝ }
 {
-    let at = HEADER_WORDS + TILE_WORDS * wide(tile.0);
+    let number = wide(tile.0);
+    let at = HEADER_WORDS + TILE_WORDS * number;
     let entries = wide(pool[at]);
     let mut link = pool[at + 1];
     let mut done = 0;
     while done < entries {
-        let block = start + BLOCK_WORDS * wide(link - 1);
+        let block = from + BLOCK_WORDS * wide(link - 1);
         let k = share(entries - done);
         copy(pool, block, k, ids, done);
         link = pool[block + BLOCK_IDS];

@@ -8,8 +8,8 @@ ghost use Rattle.pool.specs.Words.{edition, start};
 ghost use Rattle.pool.specs.Sound.{Sound, tilesOf};
 ghost use Rattle.pool.specs.Lists.{listOf};
 ghost use Rattle.audit.specs.Answer.{HeaderOf};
-ghost use Rattle.lister.specs.Text.{Puts};
-ghost use Rattle.lister.specs.Listing.{screenLine, idsText, lineOf, tileLine, tileLines, listing};
+ghost use Rattle.lister.specs.Text.{field, Puts};
+ghost use Rattle.lister.specs.Listing.{space, screenLine, idsText, lineOf, tileLine, tileLines, listing};
 use crate::ids::tile_ids;
 use crate::text::put_field;
 use crate::text::put_text;
@@ -31,6 +31,14 @@ fn put_screen(screen: Screen, blocks: u32, free: u32, out: &mut [u8], at: usize)
     put_text(b"\n", out, last)
 }
 
+// An id, after a space.
+fn put_id(id: u32, out: &mut [u8], at: usize) -> usize
+    requires { ⌜ at + length (field space id) ≤ length (now out) ⌝ }
+    ensures { λ r. ⌜ Puts (now (out .entry)) at (field space id) (now (out .exit)) r ⌝ }
+{
+    put_field(b" ", id, out, at)
+}
+
 // Each id after a space.
 fn put_ids(ids: &[u32], out: &mut [u8], at: usize) -> usize
     requires { ⌜ at + length (idsText (now ids)) ≤ length (now out) ⌝ }
@@ -39,7 +47,7 @@ fn put_ids(ids: &[u32], out: &mut [u8], at: usize) -> usize
     let mut next = at;
     let mut k = 0;
     while k < ids.len() {
-        next = put_field(b" ", ids[k], out, next);
+        next = put_id(ids[k], out, next);
         k += 1;
     }
     next
@@ -59,19 +67,19 @@ fn put_line(tile: Tile, ids: &[u32], out: &mut [u8], at: usize) -> usize
 // The line of a tile of a sound pool, and nothing where its list is empty. `ids` has room for the list.
 fn put_tile(
     pool: &[u32],
-    start: usize,
+    from: usize,
     tile: Tile,
     ids: &mut [u32],
     out: &mut [u8],
     at: usize,
 ) -> usize
     requires { ⌜ Sound edition (now pool) ⌝ }
-    requires { ⌜ (start ≡ start edition (tilesOf (now pool))) × (tile .0 < tilesOf (now pool)) ⌝ }
+    requires { ⌜ (from ≡ start edition (tilesOf (now pool))) × (tile .0 < tilesOf (now pool)) ⌝ }
     requires { ⌜ length (listOf edition (tilesOf (now pool)) (now pool) (tile .0)) ≤ length (now ids) ⌝ }
     requires { ⌜ at + length (tileLine (tile .0) (listOf edition (tilesOf (now pool)) (now pool) (tile .0))) ≤ length (now out) ⌝ }
     ensures { λ r. ⌜ Puts (now (out .entry)) at (tileLine (tile .0) (listOf edition (tilesOf (now (pool .entry))) (now (pool .entry)) (tile .0))) (now (out .exit)) r ⌝ }
 {
-    let count = tile_ids(pool, start, tile, ids);
+    let count = tile_ids(pool, from, tile, ids);
     if count == 0 {
         return at;
     }
@@ -81,14 +89,14 @@ fn put_tile(
 // The lines of all tiles of a sound pool. `ids` has room for every list.
 fn put_tiles(
     pool: &[u32],
-    start: usize,
+    from: usize,
     tiles: u32,
     ids: &mut [u32],
     out: &mut [u8],
     at: usize,
 ) -> usize
     requires { ⌜ Sound edition (now pool) ⌝ }
-    requires { ⌜ (start ≡ start edition (tilesOf (now pool))) × (tiles ≡ tilesOf (now pool)) ⌝ }
+    requires { ⌜ (from ≡ start edition (tilesOf (now pool))) × (tiles ≡ tilesOf (now pool)) ⌝ }
     requires { ⌜ length (now pool) ≤ length (now ids) ⌝ }
     requires { ⌜ at + length (tileLines (now pool) tiles) ≤ length (now out) ⌝ }
     ensures { λ r. ⌜ Puts (now (out .entry)) at (tileLines (now (pool .entry)) tiles) (now (out .exit)) r ⌝ }
@@ -96,7 +104,7 @@ fn put_tiles(
     let mut next = at;
     let mut t = 0;
     while t < tiles {
-        next = put_tile(pool, start, Tile(t), ids, out, next);
+        next = put_tile(pool, from, Tile(t), ids, out, next);
         t += 1;
     }
     next

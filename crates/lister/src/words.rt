@@ -1,6 +1,6 @@
 // From bytes to words, four to a word, the lowest first.
 ghost use mathlib.Core.Path.{_≡_};
-ghost use Prim.Native.Nat.{_+_, _*_, _%_, _<_, _≤_};
+ghost use Prim.Native.Nat.{_+_, _*_, _<_, _≤_};
 ghost use lib.ListN.{length, take};
 ghost use Rattle.lister.specs.Bytes.{wordAt, wordsOf};
 
@@ -20,9 +20,9 @@ fn word_at(bytes: &[u8], at: usize) -> u32
     low + 65536 * byte(bytes[at + 2]) + 16777216 * byte(bytes[at + 3])
 }
 
-// Puts the words that the bytes say at the start of `words`, and answers how many there are.
+// Puts the words that the bytes say at the start of `words`, and answers how many there are. Up to three bytes that are left over say nothing.
 pub fn words_from(bytes: &[u8], words: &mut [u32]) -> usize
-    requires { ⌜ (length (now bytes) % 4 ≡ 0) × (length (now bytes) ≤ 4 * length (now words)) ⌝ }
+    requires { ⌜ length (now bytes) ≤ 4 * length (now words) ⌝ }
     ensures within { λ r. ⌜ r ≤ length (now (words .exit)) ⌝ }
     ensures whole { λ r. ⌜ take r (now (words .exit)) ≡ wordsOf (now (bytes .entry)) ⌝ }
 {

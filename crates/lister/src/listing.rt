@@ -17,6 +17,14 @@ use audit::Header;
 use screen::Screen;
 use screen::Tile;
 
+// The side of a tile, in pixels.
+fn pixels(s: u32) -> u32
+    requires { ⌜ s ≤ 6 ⌝ }
+    ensures { λ r. ⌜ r ≡ 2 ^ s ⌝ }
+{
+    1 << s
+}
+
 // The screen, the side of a tile in pixels, how many blocks there are, and how many are free.
 fn put_screen(screen: Screen, blocks: u32, free: u32, out: &mut [u8], at: usize) -> usize
     requires { ⌜ Allowed screen ⌝ }
@@ -25,7 +33,7 @@ fn put_screen(screen: Screen, blocks: u32, free: u32, out: &mut [u8], at: usize)
 {
     let width = put_field(b"screen ", screen.width, out, at);
     let height = put_field(b" ", screen.height, out, width);
-    let side = put_field(b" tile ", 1 << screen.s, out, height);
+    let side = put_field(b" tile ", pixels(screen.s), out, height);
     let all = put_field(b" blocks ", blocks, out, side);
     let last = put_field(b" free ", free, out, all);
     put_text(b"\n", out, last)

@@ -1,50 +1,51 @@
+-- `put_ids`: what remains is the text of the ids from k on.
+use Rattle.lister.specs.Text.{field}
+use Rattle.lister.proofs.Lines.{idsText-next}
+use Prim.Native.Nat.{_+_, _-_, _≤_}
+use denote.Ref.{now}
+use native.Mathlib.Omega.{arith}
+use lib.ListN.{length, getD, drop, drop-of-length-le}
+use Rattle.lister.specs.Listing.{space, idsText}
+use Rattle.lister.proofs.Writing.{Remains, remains-all, remains-room, remains-then, remains-none}
+use borrow.Author.Needs.{needs}
 use Rattle.lister.proofs.listing.put_ids.Statement.{statement}
 use Rattle.lister.proofs.listing.put_ids.Tie as tie
-use Rattle.lister.proofs.listing.put_ids.Reads as reads
-use Rattle.lister.proofs.listing.put_ids.Lts as lts
-use Rattle.lister.proofs.listing.put_id.Reads as put-id-reads
 
 abbrev Inv-loop : tie.InvT-loop
-Inv-loop ids out₀ at next₀ k₀ out next k = ?
+Inv-loop ids out₀ at next₀ k₀ out next k = (k ≤ length ids) × Remains out₀ at (idsText ids) out next (idsText (drop k ids))
 
 abbrev μ-loop : tie.MeasureT-loop
-μ-loop ids out₀ at next₀ k₀ out next k = ?
+μ-loop ids out₀ at next₀ k₀ out next k = length ids - k
 
--- src/listing.rt:49:5
 loop-holds : tie.Need-loop-holds Inv-loop μ-loop
-loop-holds c = ?
+loop-holds c = (omega arith, remains-all _ _ _)
 
--- src/listing.rt:50:23
 mul-put-id : tie.Need-mul-put-id Inv-loop μ-loop
-mul-put-id c = ?
+mul-put-id c = search needs
 
--- src/listing.rt:50:23
 shared-slice-read-put-id : tie.Need-shared-slice-read-put-id Inv-loop μ-loop
-shared-slice-read-put-id c = ?
+shared-slice-read-put-id c = search needs
 
--- src/listing.rt:50:9
 put-id-requires : tie.Need-put-id-requires Inv-loop μ-loop
-put-id-requires c κs = ?
+put-id-requires c κs = let l = c .before .before .before .loop in
+    let ids = now (c .before .before .before .before .before .before .args .ids) in
+    remains-room (field space (getD ids (l .k) 0)) (idsText (drop (l .k + 1) ids)) (rw (idsText-next ids (l .k) (omega arith)) at (l .inv .1)) (c .before .before .before .before .before .before .pre)
 
--- src/listing.rt:51:9
 add-k : tie.Need-add-k Inv-loop μ-loop
-add-k c = ?
+add-k c = search needs
 
--- src/listing.rt:49:5
 loop-less : tie.Need-loop-less Inv-loop μ-loop
-loop-less c = ?
+loop-less c = search needs
 
--- src/listing.rt:49:5
 loop-again : tie.Need-loop-again Inv-loop μ-loop
-loop-again c = ?
+loop-again c = let l = c .before .before .before .before .before .before .loop in
+    (omega arith, remains-then (rw (idsText-next (now (c .before .before .before .before .before .before .before .before .before .args .ids)) (l .k) (omega arith)) at (l .inv .1)) (c .before .before .put-id .ensures))
 
--- src/listing.rt:43:1
 same-length : tie.Need-same-length Inv-loop μ-loop
-same-length c = ?
+same-length c = c .before .loop .inv .1 .long
 
--- src/listing.rt:43:1
 returns : tie.Need-returns Inv-loop μ-loop
-returns c = ?
+returns c = remains-none (rw (drop-of-length-le (now (c .before .before .before .before .args .ids)) (c .loop-test .left)) at (c .before .loop .inv .1))
 
 pub put-ids-spec : {M : Type 1} → statement M
 put-ids-spec =

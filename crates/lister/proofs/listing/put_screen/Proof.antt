@@ -1,70 +1,63 @@
+-- `put_screen`: six texts, one behind the other, are the line.
+use Rattle.lister.specs.Listing.{screenLine}
+use native.Mathlib.Omega.{arith}
+use lib.ListN.{length-append}
+use Rattle.lister.proofs.Writing.{puts-then}
 use borrow.Author.Needs.{needs}
 use Rattle.lister.proofs.listing.put_screen.Statement.{statement}
 use Rattle.lister.proofs.listing.put_screen.Tie as tie
-use Rattle.lister.proofs.listing.put_screen.Reads as reads
-use Rattle.lister.proofs.listing.put_screen.Lts as lts
-use Rattle.lister.proofs.text.put_field.Reads as put-field-reads
-use Rattle.lister.proofs.text.put_text.Reads as put-text-reads
 
--- src/listing.rt:26:27
 slice-aggregate-put-field : tie.Need-slice-aggregate-put-field
 slice-aggregate-put-field c = search needs
 
--- src/listing.rt:26:9
 put-field-requires : tie.Need-put-field-requires
-put-field-requires c κs = ?
+unfolding screenLine
+put-field-requires c κs = omega (arith, simp length-append at (c .before .before .before .pre .1))
 
--- src/listing.rt:27:28
 slice-aggregate-put-field-2 : tie.Need-slice-aggregate-put-field-2
 slice-aggregate-put-field-2 c = search needs
 
--- src/listing.rt:27:9
 put-field-requires-2 : tie.Need-put-field-requires-2
-put-field-requires-2 c κs = ?
+unfolding screenLine
+put-field-requires-2 c κs = omega (arith, simp length-append at (c .before .before .before .before .before .before .before .before .pre .1), (c .before .before .before .before .put-field .ensures) .next-is)
 
--- src/listing.rt:28:26
 slice-aggregate-put-field-3 : tie.Need-slice-aggregate-put-field-3
 slice-aggregate-put-field-3 c = search needs
 
--- src/listing.rt:28:37
-shl-put-field : tie.Need-shl-put-field
-shl-put-field c = search needs
+pixels-requires : tie.Need-pixels-requires
+pixels-requires c κs = search needs
 
--- src/listing.rt:28:9
 put-field-requires-3 : tie.Need-put-field-requires-3
-put-field-requires-3 c κs = ?
+unfolding screenLine
+put-field-requires-3 c κs = rw (c .before .pixels .ensures) (omega (arith, simp length-append at (c .before .before .before .before .before .before .before .before .before .before .before .before .before .before .pre .1), (c .before .before .before .before .before .before .before .before .before .before .put-field .ensures) .next-is, (c .before .before .before .before .before .put-field2 .ensures) .next-is))
 
--- src/listing.rt:29:25
 slice-aggregate-put-field-4 : tie.Need-slice-aggregate-put-field-4
 slice-aggregate-put-field-4 c = search needs
 
--- src/listing.rt:29:9
 put-field-requires-4 : tie.Need-put-field-requires-4
-put-field-requires-4 c κs = ?
+unfolding screenLine
+put-field-requires-4 c κs = omega (arith, simp length-append at (c .before .before .before .before .before .before .before .before .before .before .before .before .before .before .before .before .before .before .before .pre .1), (c .before .before .before .before .before .before .before .before .before .before .before .before .before .before .before .put-field .ensures) .next-is, (c .before .before .before .before .before .before .before .before .before .before .put-field2 .ensures) .next-is, (rw (c .before .before .before .before .before .before .pixels .ensures) at (c .before .before .before .before .put-field3 .ensures)) .next-is)
 
--- src/listing.rt:30:26
 slice-aggregate-put-field-5 : tie.Need-slice-aggregate-put-field-5
 slice-aggregate-put-field-5 c = search needs
 
--- src/listing.rt:30:9
 put-field-requires-5 : tie.Need-put-field-requires-5
-put-field-requires-5 c κs = ?
+unfolding screenLine
+put-field-requires-5 c κs = omega (arith, simp length-append at (c .before .before .before .before .before .before .before .before .before .before .before .before .before .before .before .before .before .before .before .before .before .before .before .before .pre .1), (c .before .before .before .before .before .before .before .before .before .before .before .before .before .before .before .before .before .before .before .before .put-field .ensures) .next-is, (c .before .before .before .before .before .before .before .before .before .before .before .before .before .before .before .put-field2 .ensures) .next-is, (rw (c .before .before .before .before .before .before .before .before .before .before .before .pixels .ensures) at (c .before .before .before .before .before .before .before .before .before .put-field3 .ensures)) .next-is, (c .before .before .before .before .put-field4 .ensures) .next-is)
 
--- src/listing.rt:31:14
 slice-aggregate-put-text : tie.Need-slice-aggregate-put-text
 slice-aggregate-put-text c = search needs
 
--- src/listing.rt:31:5
 put-text-requires : tie.Need-put-text-requires
-put-text-requires c κs = ?
+unfolding screenLine
+put-text-requires c κs = omega (arith, simp length-append at (c .before .before .before .before .before .before .before .before .before .before .before .before .before .before .before .before .before .before .before .before .before .before .before .before .before .before .before .before .before .pre .1), (c .before .before .before .before .before .before .before .before .before .before .before .before .before .before .before .before .before .before .before .before .before .before .before .before .before .put-field .ensures) .next-is, (c .before .before .before .before .before .before .before .before .before .before .before .before .before .before .before .before .before .before .before .before .put-field2 .ensures) .next-is, (rw (c .before .before .before .before .before .before .before .before .before .before .before .before .before .before .before .before .pixels .ensures) at (c .before .before .before .before .before .before .before .before .before .before .before .before .before .before .put-field3 .ensures)) .next-is, (c .before .before .before .before .before .before .before .before .before .put-field4 .ensures) .next-is, (c .before .before .before .before .put-field5 .ensures) .next-is)
 
--- src/listing.rt:21:1
 same-length : tie.Need-same-length
 same-length c = search needs
 
--- src/listing.rt:21:1
 returns : tie.Need-returns
-returns c = ?
+unfolding screenLine
+returns c = puts-then (puts-then (puts-then (puts-then (puts-then (c .before .before .before .before .before .before .before .before .before .before .before .before .before .before .before .before .before .before .before .before .before .before .before .before .before .before .before .before .put-field .ensures) (c .before .before .before .before .before .before .before .before .before .before .before .before .before .before .before .before .before .before .before .before .before .before .before .put-field2 .ensures)) (rw (c .before .before .before .before .before .before .before .before .before .before .before .before .before .before .before .before .before .before .before .pixels .ensures) at (c .before .before .before .before .before .before .before .before .before .before .before .before .before .before .before .before .before .put-field3 .ensures))) (c .before .before .before .before .before .before .before .before .before .before .before .before .put-field4 .ensures)) (c .before .before .before .before .before .before .before .put-field5 .ensures)) (c .before .before .put-text .ensures)
 
 pub put-screen-spec : {M : Type 1} → statement M
 put-screen-spec =
@@ -75,7 +68,7 @@ put-screen-spec =
     slice-aggregate-put-field-2
     put-field-requires-2
     slice-aggregate-put-field-3
-    shl-put-field
+    pixels-requires
     put-field-requires-3
     slice-aggregate-put-field-4
     put-field-requires-4

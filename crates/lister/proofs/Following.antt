@@ -79,12 +79,12 @@ module _ {ids poison : ℕ} {word : ℕ → ℕ → ℕ} {N : ℕ} {list copy₀
           let eb : link - 1 ≡ b = omega arith in
           let rest = length-drop done list in
           let parts : part ≡ take k (drop done list) = (
-            let size′ = length-take-le k (drop done list) (omega arith) in
-            ext-getD 0 part (take k (drop done list)) (size ∙ sym size′)
-            (λ j hj.
-            let hk : j < k = omega arith in
-            same j hk ∙ ap (λ (c : ℕ). word c j) eb ∙ held .1 j (omega arith) ∙ getD-within (drop done list) j poison 0 (omega arith)
-            ∙ sym (getD-take k (drop done list) j 0 hk))) in
+          let size′ = length-take-le k (drop done list) (omega arith) in
+          ext-getD 0 part (take k (drop done list)) (size ∙ sym size′)
+          (λ j hj.
+          let hk : j < k = omega arith in
+          same j hk ∙ ap (λ (c : ℕ). word c j) eb ∙ held .1 j (omega arith) ∙ getD-within (drop done list) j poison 0 (omega arith)
+          ∙ sym (getD-take k (drop done list) j 0 hk))) in
           let front : 0 + length (take done list) ≡ done = omega (arith, length-take-le done list (F .upto)) in
           record {
             blocks = bs;
@@ -122,7 +122,7 @@ module _ (p : List ℕ) (S : Sound edition p) where
 
     pub follow-start : (copy : List ℕ)
         → Following (edition .ids) (edition .poison) (blockWord edition (tilesOf p) p) (blocksOf p) (listOf edition (tilesOf p) p t) copy copy
-            (getD p (8 + 3 * t + 1) 0) 0
+        (getD p (8 + 3 * t + 1) 0) 0
     unfolding tileWord
     follow-start copy =
         let k = S .shows .tile t ht in

@@ -91,7 +91,7 @@ module _ (p : List ℕ) (S : Sound edition p) where
       let a = S .opened .screen in
       let side : 2 ^ headerWord p 2 ≤ 64 = pow-mono (a .s≤) in
       let line = screenLine≤ (headerWord p 0) (headerWord p 1) (2 ^ headerWord p 2) (blocksOf p) (headerWord p 4) (a .width≤) (a .height≤) side (S .opened .blocks≤)
-          (omega (arith, S .shows .count, free≤ (S .shows), S .opened .blocks≤)) in
+      (omega (arith, S .shows .count, free≤ (S .shows), S .opened .blocks≤)) in
       let lines = tileLines≤ (tilesOf p) (omega arith) in
       let long = S .opened .long in
       omega (arith, length-append (screenLine (headerWord p 0) (headerWord p 1) (2 ^ headerWord p 2) (blocksOf p) (headerWord p 4)) (tileLines p (tilesOf p)))

@@ -5,10 +5,15 @@ use Prim.Native.Nat.{ℕ, zero, suc, _+_, _≤_, _<_}
 use native.Mathlib.Numerals.{add-one}
 use native.Mathlib.Omega.{arith}
 use lib.ListN.{length, getD, set, take, drop, length-append, length-set, drop-of-length-le}
-use lib.Seq.{drop-cons, take-at}
+use lib.Seq.{drop-cons, length-take-le, take-at}
+use Rattle.io.specs.Counts.{Counts}
 use Rattle.pool.specs.Opening.{written}
 use Rattle.pool.proofs.Written.{length-written, written-none, written-next, written-append, written-is}
 use Rattle.lister.specs.Text.{Puts}
+
+-- a number up to the length counts elements
+pub counts : (n : ℕ) (l : List ℕ) → n ≤ length l → Counts n l
+counts n l h = (h, sym (length-take-le n l h))
 
 -- ---- one number after the other
 
@@ -61,6 +66,10 @@ pub puts-all : {p q s : List ℕ} {j : ℕ} → Puts p 0 s q j → length s ≤ 
 puts-all {p} {q} {s} {j} A h =
     let e : j ≡ length s = omega (arith, A .next-is) in
     (λ x. take (e x) (A .after-is x)) ∙ take-written p s h
+
+-- and that place counts what was put
+pub puts-counts : {p q s : List ℕ} {j : ℕ} → Puts p 0 s q j → length s ≤ length p → Counts j q
+puts-counts {p} {q} {s} {j} A h = counts j q (omega (arith, A .next-is, puts-long A))
 
 -- ---- one text after another, as the rest of a whole
 

@@ -2,6 +2,7 @@
 ghost use mathlib.Core.Path.{_≡_};
 ghost use Prim.Native.Nat.{_+_, _*_, _<_, _≤_, min};
 ghost use lib.ListN.{length, take, drop};
+ghost use Rattle.io.specs.Counts.{Counts};
 ghost use Rattle.pool.specs.Words.{edition, start};
 ghost use Rattle.pool.specs.Sound.{Sound, tilesOf};
 ghost use Rattle.pool.specs.Lists.{listOf};
@@ -37,7 +38,7 @@ pub fn tile_ids(pool: &[u32], from: usize, tile: Tile, ids: &mut [u32]) -> usize
     requires { ⌜ Sound edition (now pool) ⌝ }
     requires { ⌜ (from ≡ start edition (tilesOf (now pool))) × (tile .0 < tilesOf (now pool)) ⌝ }
     requires { ⌜ length (listOf edition (tilesOf (now pool)) (now pool) (tile .0)) ≤ length (now ids) ⌝ }
-    ensures within { λ r. ⌜ r ≤ length (now (ids .exit)) ⌝ }
+    ensures within { λ r. ⌜ Counts r (now (ids .exit)) ⌝ }
     ensures whole { λ r. ⌜ take r (now (ids .exit)) ≡ listOf edition (tilesOf (now (pool .entry))) (now (pool .entry)) (tile .0) ⌝ }
 {
     let number = wide(tile.0);

@@ -6,8 +6,9 @@ mod text;
 mod words;
 
 ghost use mathlib.Core.Path.{_≡_};
-ghost use Prim.Native.Nat.{_≤_, _%_};
+ghost use Prim.Native.Nat.{_≤_};
 ghost use lib.ListN.{length, take};
+ghost use Rattle.io.specs.Counts.{Counts};
 ghost use Rattle.lister.specs.Answer.{WordsSay, BytesSay};
 use crate::listing::put_listing;
 use crate::text::put_text;
@@ -27,7 +28,7 @@ const MOST_TEXT: usize = 150000;
 // Puts the text for these words at the start of `out`, and answers its length.
 fn list_words(pool: &[u32], out: &mut [u8]) -> usize
     requires { ⌜ (length (now pool) ≤ 16384) × (150000 ≤ length (now out)) ⌝ }
-    ensures within { λ r. ⌜ r ≤ length (now (out .exit)) ⌝ }
+    ensures within { λ r. ⌜ Counts r (now (out .exit)) ⌝ }
     ensures text { λ r. ⌜ WordsSay (now (pool .entry)) (take r (now (out .exit))) ⌝ }
 {
     let Audited::Sound(header) = audit::audit(pool) else {
@@ -40,7 +41,7 @@ fn list_words(pool: &[u32], out: &mut [u8]) -> usize
 // Puts the text for these bytes at the start of `out`, and answers its length.
 fn list_bytes(bytes: &[u8], out: &mut [u8]) -> usize
     requires { ⌜ 150000 ≤ length (now out) ⌝ }
-    ensures within { λ r. ⌜ r ≤ length (now (out .exit)) ⌝ }
+    ensures within { λ r. ⌜ Counts r (now (out .exit)) ⌝ }
     ensures text { λ r. ⌜ BytesSay (now (bytes .entry)) (take r (now (out .exit))) ⌝ }
 {
     if MOST_BYTES < bytes.len() {

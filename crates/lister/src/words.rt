@@ -2,6 +2,7 @@
 ghost use mathlib.Core.Path.{_≡_};
 ghost use Prim.Native.Nat.{_+_, _*_, _<_, _≤_};
 ghost use lib.ListN.{length, take};
+ghost use Rattle.io.specs.Counts.{Counts};
 ghost use Rattle.lister.specs.Bytes.{wordAt, wordsOf};
 
 // A byte, as a word.
@@ -23,7 +24,7 @@ fn word_at(bytes: &[u8], at: usize) -> u32
 // Puts the words that the bytes say at the start of `words`, and answers how many there are. Up to three bytes that are left over say nothing.
 pub fn words_from(bytes: &[u8], words: &mut [u32]) -> usize
     requires { ⌜ length (now bytes) ≤ 4 * length (now words) ⌝ }
-    ensures within { λ r. ⌜ r ≤ length (now (words .exit)) ⌝ }
+    ensures within { λ r. ⌜ Counts r (now (words .exit)) ⌝ }
     ensures whole { λ r. ⌜ take r (now (words .exit)) ≡ wordsOf (now (bytes .entry)) ⌝ }
 {
     let count = bytes.len() / 4;

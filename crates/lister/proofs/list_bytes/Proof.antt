@@ -1,71 +1,67 @@
+-- `list_bytes`: the two tests on the length, and then what is said of the words.
+use mathlib.Core.Path.{ap}
+use native.Mathlib.Omega.{arith}
+use denote.Ref.{now}
+use lib.ListN.{length}
+use Rattle.lister.specs.Answer.{WordsSay}
+use Rattle.lister.proofs.Writing.{puts-all, puts-counts}
 use borrow.Author.Needs.{needs}
 use Rattle.lister.proofs.list_bytes.Statement.{statement}
 use Rattle.lister.proofs.list_bytes.Tie as tie
-use Rattle.lister.proofs.list_bytes.Reads as reads
-use Rattle.lister.proofs.list_bytes.Lts as lts
-use Rattle.lister.proofs.list_words.Reads as list-words-reads
-use Rattle.lister.proofs.text.put_text.Reads as put-text-reads
-use Rattle.lister.proofs.words.words_from.Reads as words-from-reads
 
--- src/main.rt:47:25
 slice-aggregate-put-text : tie.Need-slice-aggregate-put-text
 slice-aggregate-put-text c = search needs
 
--- src/main.rt:47:9
 put-text-requires : tie.Need-put-text-requires
 put-text-requires c κs = search needs
 
--- src/main.rt:47:9
 same-length : tie.Need-same-length
 same-length c = search needs
 
--- src/main.rt:47:9
 returns : tie.Need-returns
-returns c = ?
+returns c = let P = c .before .before .put-text .ensures in (
+  puts-counts P (omega arith),
+  record { long = λ l. puts-all P (omega arith); odd = λ l. absurd (omega arith); whole = λ l. absurd (omega arith) },
+)
 
--- src/main.rt:50:25
 slice-aggregate-put-text-2 : tie.Need-slice-aggregate-put-text-2
 slice-aggregate-put-text-2 c = search needs
 
--- src/main.rt:50:9
 put-text-requires-2 : tie.Need-put-text-requires-2
 put-text-requires-2 c κs = search needs
 
--- src/main.rt:50:9
 same-length-2 : tie.Need-same-length-2
 same-length-2 c = search needs
 
--- src/main.rt:50:9
 returns-2 : tie.Need-returns-2
-returns-2 c = ?
+returns-2 c = let P = c .before .before .put-text2 .ensures in (
+  puts-counts P (omega arith),
+  record { long = λ l. absurd (omega arith); odd = λ l o. puts-all P (omega arith); whole = λ l w. absurd (c .before .before .before .before .before .if2 .taken w) },
+)
 
--- src/main.rt:53:35
 slice-aggregate-words-from : tie.Need-slice-aggregate-words-from
 slice-aggregate-words-from c = search needs
 
--- src/main.rt:53:9
 words-from-requires : tie.Need-words-from-requires
 words-from-requires c κs = search needs
 
--- src/main.rt:54:16
 array-share-prefix-words : tie.Need-array-share-prefix-words
 array-share-prefix-words c = search needs
 
--- src/main.rt:54:16
 slice-aggregate-list-words : tie.Need-slice-aggregate-list-words
-slice-aggregate-list-words c = ?
+slice-aggregate-list-words c = search needs
 
--- src/main.rt:54:5
 list-words-requires : tie.Need-list-words-requires
-list-words-requires c κs = ?
+list-words-requires c κs = omega arith
 
--- src/main.rt:41:1
 same-length-3 : tie.Need-same-length-3
 same-length-3 c = search needs
 
--- src/main.rt:41:1
 returns-3 : tie.Need-returns-3
-returns-3 c = ?
+returns-3 c = let e = rw (c .before .before .before .before .before .before .words-from .ensures .1) at (c .before .before .list-words .ensures .1) in (
+  c .before .before .list-words .ensures .0,
+  record { long = λ l. absurd (omega arith); odd = λ l o. absurd (o (c .before .before .before .before .before .before .before .before .if2 .left)); whole = λ l w. e },
+)
 
 pub list-bytes-spec : {M : Type 1} → statement M
 list-bytes-spec =

@@ -7,7 +7,7 @@ use lib.ListN.{length, getD, take, drop}
 use Rattle.pool.specs.Words.{edition, start, blockWord}
 use Rattle.pool.specs.Sound.{tilesOf, blocksOf}
 use Rattle.pool.specs.Lists.{listOf}
-use Rattle.lister.proofs.Writing.{take-written}
+use Rattle.lister.proofs.Writing.{take-written, counts}
 use Rattle.lister.proofs.Following.{Following, follow-start, follow-block, follow-step, follow-end, block-within, tile-within, tile-entries, length-part, getD-part}
 use borrow.Author.Needs.{needs}
 use Rattle.lister.proofs.ids.tile_ids.Statement.{statement}
@@ -61,7 +61,7 @@ loop-holds c = let s = c .before .before .before .before .before .before in
     let p = now (s .args .pool) in
     let number = c .before .before .before .wide .ensures in
     let entries : c .before .wide2 .result ≡ length (listOf edition (tilesOf p) p (s .args .tile .0)) =
-        (rw number at (c .before .wide2 .ensures)) ∙ tile-entries p (s .pre .0) (s .args .tile .0) (s .pre .1 .0 .1) in
+    (rw number at (c .before .wide2 .ensures)) ∙ tile-entries p (s .pre .0) (s .args .tile .0) (s .pre .1 .0 .1) in
     rw number (follow-start p (s .pre .0) (s .args .tile .0) (s .pre .1 .0 .1) (now (s .args .ids)), entries, omega (arith, s .pre .1 .1), refl)
 
 sub-wide : tie.Need-sub-wide Inv-loop μ-loop
@@ -111,7 +111,7 @@ loop-again c = let s = c .before .before .before .before .before .before .before
     let share : k ≡ min 31 (length (listOf edition (tilesOf p) p (c .before .before .before .before .before .before .before .before .before .before .before .before .wide .result)) - l .done) = (rw (l .inv .1) at (c .before .before .before .before .before .share .ensures)) in
     let size : length (take k (drop place p)) ≡ k = length-part place k p (omega (arith, inside (c .before .before .before .before .before .before .before))) in
     let F = follow-step (l .inv .0) (omega arith) k (take k (drop place p)) _ share size (λ j hj. getD-part place k p j hj ∙ ap (λ (x : ℕ). getD p (x + j) 0) at)
-        (c .before .before .before .copy .ensures) in
+    (c .before .before .before .copy .ensures) in
     (rw at F, l .inv .1, l .inv .2, omega arith)
 
 same-length : tie.Need-same-length Inv-loop μ-loop
@@ -120,9 +120,8 @@ same-length c = c .before .loop .inv .3
 returns : tie.Need-returns Inv-loop μ-loop
 returns c = let s = c .before .before .before .before .before .before .before .before in
     let e = follow-end (c .before .loop .inv .0) (omega arith) in
-    let list = listOf edition (tilesOf (now (s .args .pool))) (now (s .args .pool)) in
-    (
-      omega arith,
+    let list = listOf edition (tilesOf (now (s .args .pool))) (now (s .args .pool)) in (
+      counts _ _ (omega arith),
       rw (e .0, e .1) (take-written _ _ (omega arith)) ∙ ap list (c .before .before .before .before .before .wide .ensures),
     )
 

@@ -1,46 +1,55 @@
+-- `put_tile`: the ids that were copied are the list; with none of them there is no line.
+use mathlib.Core.Path.{_≡_, sym, ap, _∙_}
+use mathlib.Core.List.{[]}
+use denote.Ref.{now}
+use lib.ListN.{length, take}
+use native.Mathlib.Omega.{arith}
+use Rattle.pool.specs.Words.{edition}
+use Rattle.pool.specs.Sound.{tilesOf}
+use Rattle.pool.specs.Lists.{listOf}
+use Rattle.lister.specs.Listing.{lineOf, tileLine}
+use Rattle.lister.proofs.Writing.{puts-none}
+use Rattle.lister.proofs.Lines.{tileLine-some}
 use borrow.Author.Needs.{needs}
 use Rattle.lister.proofs.listing.put_tile.Statement.{statement}
 use Rattle.lister.proofs.listing.put_tile.Tie as tie
-use Rattle.lister.proofs.listing.put_tile.Reads as reads
-use Rattle.lister.proofs.listing.put_tile.Lts as lts
-use Rattle.lister.proofs.ids.tile_ids.Reads as tile-ids-reads
-use Rattle.lister.proofs.listing.put_line.Reads as put-line-reads
 
--- src/listing.rt:82:9
+-- the line of a tile, where ids were copied
+line : (c : tie.Else1) → let a = c .before .before .before .before .before .before .before .before .args in
+    tileLine (a .tile .0) (listOf edition (tilesOf (now (a .pool))) (now (a .pool)) (a .tile .0))
+    ≡ lineOf (a .tile .0) (take (c .before .before .before .tile-ids .result) (c .before .before .before .tile-ids .last .1 .1 .1 .0))
+line c =
+    let t = c .before .before .before .before .before .before .before .before .args .tile .0 in
+    let e = c .before .before .before .tile-ids .ensures in
+    tileLine-some t _ (omega (arith, ap length (e .1), e .0, c .if1 .left)) ∙ ap (lineOf t) (sym (e .1))
+
 tile-ids-requires : tie.Need-tile-ids-requires
 tile-ids-requires c κs = search needs
 
--- src/listing.rt:84:9
 same-length : tie.Need-same-length
 same-length c = search needs
 
--- src/listing.rt:84:9
 returns : tie.Need-returns
-returns c = ?
+returns c = let e = rw (c .if1 .taken) at (c .before .before .before .tile-ids .ensures .1) in
+    rw (← e) (puts-none _ _)
 
--- src/listing.rt:86:20
 slice-reshare-prefix-put-line : tie.Need-slice-reshare-prefix-put-line
 slice-reshare-prefix-put-line c = search needs
 
--- src/listing.rt:86:20
 slice-aggregate-put-line : tie.Need-slice-aggregate-put-line
-slice-aggregate-put-line c = ?
+slice-aggregate-put-line c = search needs
 
--- src/listing.rt:86:5
 put-line-requires : tie.Need-put-line-requires
-put-line-requires c κs = ?
+put-line-requires c κs = rw (line (c .before .before)) at (c .before .before .before .before .before .before .before .before .before .before .pre .1 .1 .1)
 
--- src/listing.rt:68:1
 same-length-2 : tie.Need-same-length-2
 same-length-2 c = search needs
 
--- src/listing.rt:68:1
 same-length-3 : tie.Need-same-length-3
 same-length-3 c = search needs
 
--- src/listing.rt:68:1
 returns-2 : tie.Need-returns-2
-returns-2 c = ?
+returns-2 c = rw (line (c .before .before .before .before .before)) (c .before .before .put-line .ensures)
 
 pub put-tile-spec : {M : Type 1} → statement M
 put-tile-spec =

@@ -1,46 +1,58 @@
+-- `put_tiles`: after t tiles, their lines have been put.
+use mathlib.Core.Path.{_≡_, refl, ap}
+use Prim.Native.Nat.{_-_, _<_, _≤_}
+use native.Mathlib.Omega.{arith}
+use denote.Ref.{now}
+use lib.ListN.{length}
+use Rattle.pool.specs.Sound.{tilesOf}
+use Rattle.lister.specs.Text.{Puts}
+use Rattle.lister.specs.Listing.{tileLines}
+use Rattle.lister.proofs.Writing.{puts-none, puts-then, puts-long}
+use Rattle.lister.proofs.Lines.{tileLines-next, tileLines-grow, list≤}
+use borrow.Author.Needs.{needs}
 use Rattle.lister.proofs.listing.put_tiles.Statement.{statement}
 use Rattle.lister.proofs.listing.put_tiles.Tie as tie
-use Rattle.lister.proofs.listing.put_tiles.Reads as reads
-use Rattle.lister.proofs.listing.put_tiles.Lts as lts
-use Rattle.lister.proofs.listing.put_tile.Reads as put-tile-reads
 
 abbrev Inv-loop : tie.InvT-loop
-Inv-loop pool from tiles ids₀ out₀ at next₀ t₀ ids out next t = ?
+Inv-loop pool from tiles ids₀ out₀ at next₀ t₀ ids out next t = (t ≤ tiles) × Puts out₀ at (tileLines pool t) out next × (length ids ≡ length ids₀)
 
 abbrev μ-loop : tie.MeasureT-loop
-μ-loop pool from tiles ids₀ out₀ at next₀ t₀ ids out next t = ?
+μ-loop pool from tiles ids₀ out₀ at next₀ t₀ ids out next t = tiles - t
 
--- src/listing.rt:106:5
 loop-holds : tie.Need-loop-holds Inv-loop μ-loop
-loop-holds c = ?
+loop-holds c = (omega arith, puts-none _ _, refl)
 
--- src/listing.rt:107:9
 put-tile-requires : tie.Need-put-tile-requires Inv-loop μ-loop
-put-tile-requires c κs = ?
+put-tile-requires c κs = let s = c .before .before .before .before .before .before .before in
+    let p = now (s .args .pool) in
+    let l = c .before .before .before .loop in
+    let lt : l .t < tilesOf p = omega (arith, s .pre .1 .0 .1) in (
+      s .pre .0,
+      (
+        (s .pre .1 .0 .0, lt),
+        (omega (arith, list≤ p (s .pre .0) (l .t) lt, s .pre .1 .1 .0), omega (arith, tileLines-grow p (l .t) (s .args .tiles) (omega arith), l .inv .1 .next-is, puts-long (l .inv .1), s .pre .1 .1 .1)),
+      ),
+    )
 
--- src/listing.rt:108:9
 add-t : tie.Need-add-t Inv-loop μ-loop
-add-t c = ?
+add-t c = search needs
 
--- src/listing.rt:106:5
 loop-less : tie.Need-loop-less Inv-loop μ-loop
-loop-less c = ?
+loop-less c = search needs
 
--- src/listing.rt:106:5
 loop-again : tie.Need-loop-again Inv-loop μ-loop
-loop-again c = ?
+loop-again c = let l = c .before .before .before .before .before .before .before .before .loop in
+    (omega arith, rw (tileLines-next (now (c .before .before .before .before .before .before .before .before .before .before .before .before .args .pool)) (l .t)) (puts-then (l .inv .1) (c .before .before .before .before .put-tile .ensures)), omega arith)
 
--- src/listing.rt:90:1
 same-length : tie.Need-same-length Inv-loop μ-loop
-same-length c = ?
+same-length c = c .before .loop .inv .2
 
--- src/listing.rt:90:1
 same-length-2 : tie.Need-same-length-2 Inv-loop μ-loop
-same-length-2 c = ?
+same-length-2 c = puts-long (c .before .loop .inv .1)
 
--- src/listing.rt:90:1
 returns : tie.Need-returns Inv-loop μ-loop
-returns c = ?
+returns c = let e : c .before .loop .t ≡ c .before .before .before .before .before .args .tiles = omega arith in
+    rw e at (c .before .loop .inv .1)
 
 pub put-tiles-spec : {M : Type 1} → statement M
 put-tiles-spec =

@@ -7,7 +7,7 @@ use mathlib.Core.Path.{_≡_, sym, ap, _∙_}
 use lib.ListN.{length, take}
 use Rattle.lister.specs.Bytes.{wordsOf}
 use Rattle.lister.proofs.Little.{length-wordsOf, getD-wordsOf}
-use Rattle.lister.proofs.Writing.{Writing, write-start, write-step, write-end, take-written}
+use Rattle.lister.proofs.Writing.{Writing, write-start, write-step, write-end, take-written, counts}
 use Rattle.lister.proofs.words.words_from.Statement.{statement}
 use Rattle.lister.proofs.words.words_from.Tie as tie
 
@@ -49,12 +49,10 @@ same-length : tie.Need-same-length Inv-loop μ-loop
 same-length c = c .before .loop .inv .long
 
 returns : tie.Need-returns Inv-loop μ-loop
-returns c = let w = length-wordsOf (now (c .before .before .before .before .args .bytes)) in
-    let e : length (wordsOf (now (c .before .before .before .before .args .bytes))) ≡ _ = w in
-    (
-      omega (arith, c .before .loop .inv .long),
-      rw (← w, write-end (c .before .loop .inv) (omega arith)) (take-written _ _ (omega arith)),
-    )
+returns c = let w = length-wordsOf (now (c .before .before .before .before .args .bytes)) in (
+  counts _ _ (omega (arith, c .before .loop .inv .long)),
+  rw (← w, write-end (c .before .loop .inv) (omega arith)) (take-written _ _ (omega arith)),
+)
 
 pub words-from-spec : {M : Type 1} → statement M
 words-from-spec =

@@ -1,7 +1,7 @@
 -- A chain of a sound pool that is followed, block by block, while its ids are copied one block after the other.
 use mathlib.Core.Path.{_≡_, refl, sym, ap, _∙_, subst}
 use mathlib.Core.Logic.{⊎-elim}
-use mathlib.Core.List.{List, [], _∷_, _++_}
+use mathlib.Core.List.{List, [], _∷_}
 use Prim.Native.Nat.{ℕ, zero, suc, _+_, _*_, _-_, _≤_, _<_, min}
 use native.Mathlib.Nat.{not-suc-le-zero, le-of-suc-le-suc, mul-le-mul-left}
 use native.Mathlib.Omega.{arith}
@@ -9,7 +9,7 @@ use lib.ListN.{length, getD, take, drop, length-drop, drop-of-length-le}
 use lib.Seq.{length-take-le, getD-take, getD-drop, take-add, take-all, drop-drop, ext-getD}
 use Rattle.numbers.proofs.Ceil.{lt-or-ge}
 use Rattle.pool.specs.Words.{edition, start, room, tileWord, blockWord}
-use Rattle.pool.specs.State.{State, tileOf, linkTo, times, Holds}
+use Rattle.pool.specs.State.{tileOf, linkTo, times, Holds}
 use Rattle.pool.specs.Sound.{Sound, tilesOf, blocksOf}
 use Rattle.pool.specs.Lists.{listOf}
 use Rattle.pool.specs.Opening.{written}

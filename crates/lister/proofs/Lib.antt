@@ -3,3 +3,4 @@ pub mod Little
 pub mod Numerals
 pub mod Following
 pub mod Lines
+pub mod OneText

@@ -1,5 +1,5 @@
 -- The lines of a listing: one more, and how long they are at most.
-use mathlib.Core.Path.{_≡_, refl, sym, ap, _∙_}
+use mathlib.Core.Path.{_≡_, refl, ap}
 use mathlib.Core.Logic.{⊎-elim}
 use mathlib.Core.List.{List, [], _∷_, _++_}
 use Prim.Native.Nat.{ℕ, zero, suc, _+_, _*_, _^_, _≤_, _<_, suc-le-suc}
@@ -11,14 +11,14 @@ use lib.Pow.{pow-mono}
 use lib.Seq.{drop-cons}
 use Rattle.numbers.proofs.Ceil.{lt-or-ge}
 use Rattle.pool.specs.Words.{edition, room, start, headerWord}
-use Rattle.pool.specs.State.{Chained, empty, tileOf}
+use Rattle.pool.specs.State.{empty, tileOf}
 use Rattle.pool.specs.Sound.{Sound, tilesOf, blocksOf}
 use Rattle.pool.specs.Lists.{listOf}
 use Rattle.pool.proofs.Words.{edition-fair}
 use Rattle.pool.proofs.Lists.{listOf-tile, blocks-enough}
 use Rattle.pool.proofs.Total.{blocksInTiles, blocks-total, free≤, entries≤}
 use Rattle.lister.specs.Text.{field}
-use Rattle.lister.specs.Listing.{newline, space, colon, screen-name, side-name, blocks-name, free-name, tile-name, screenLine, idsText, lineOf, tileLine, tileLines, listing}
+use Rattle.lister.specs.Listing.{space, screen-name, side-name, blocks-name, free-name, tile-name, screenLine, idsText, lineOf, tileLine, tileLines, listing}
 use Rattle.lister.proofs.Numerals.{field≤}
 
 -- ---- one more id, and one more tile

@@ -1,11 +1,11 @@
 -- The words that bytes say, one by one.
-use mathlib.Core.Path.{_≡_, refl, ap, _∙_}
+use mathlib.Core.Path.{_≡_, refl}
 use mathlib.Core.List.{List, [], _∷_}
-use Prim.Native.Nat.{ℕ, zero, suc, _+_, _*_, _/_, _≤_, _<_}
+use Prim.Native.Nat.{ℕ, zero, suc, _+_, _*_, _/_, _<_}
 use native.Mathlib.Nat.{le-of-suc-le-suc, not-suc-le-zero}
 use native.Mathlib.Omega.{arith}
 use lib.ListN.{length, getD}
-use Rattle.lister.specs.Bytes.{wordOf, wordAt, wordsOf}
+use Rattle.lister.specs.Bytes.{wordAt, wordsOf}
 
 pub length-wordsOf : (bytes : List ℕ) → length (wordsOf bytes) ≡ length bytes / 4
 length-wordsOf [] = omega arith
@@ -16,7 +16,6 @@ length-wordsOf (a ∷ b ∷ c ∷ d ∷ bytes) = omega (arith, length-wordsOf by
 
 -- past the first word
 wordAt-next : (a b c d : ℕ) (bytes : List ℕ) (k : ℕ) → wordAt (a ∷ b ∷ c ∷ d ∷ bytes) (4 * suc k) ≡ wordAt bytes (4 * k)
-unfolding wordAt
 wordAt-next a b c d bytes k =
     let e : 4 * suc k ≡ suc (suc (suc (suc (4 * k)))) = omega arith in
     let e₁ : suc (suc (suc (suc (4 * k)))) + 1 ≡ suc (suc (suc (suc (4 * k + 1)))) = omega arith in
@@ -25,7 +24,6 @@ wordAt-next a b c d bytes k =
     simp (e, e₁, e₂, e₃)
 
 pub getD-wordsOf : (bytes : List ℕ) (k : ℕ) → k < length (wordsOf bytes) → getD (wordsOf bytes) k 0 ≡ wordAt bytes (4 * k)
-unfolding wordAt
 getD-wordsOf [] k h = absurd (not-suc-le-zero h)
 getD-wordsOf (a ∷ []) k h = absurd (not-suc-le-zero h)
 getD-wordsOf (a ∷ b ∷ []) k h = absurd (not-suc-le-zero h)

@@ -8,7 +8,7 @@ abbrev pub wordOf : (a b c d : ℕ) → ℕ
 wordOf a b c d = a + 256 * b + 65536 * c + 16777216 * d
 
 -- the word that starts at a byte
-unfoldable pub wordAt : List ℕ → (at : ℕ) → ℕ
+abbrev pub wordAt : List ℕ → (at : ℕ) → ℕ
 wordAt bytes at = wordOf (getD bytes at 0) (getD bytes (at + 1) 0) (getD bytes (at + 2) 0) (getD bytes (at + 3) 0)
 
 -- one word after the other; up to three bytes that are left over say nothing

@@ -3,7 +3,7 @@ ghost use mathlib.Core.Path.{_≡_};
 ghost use Prim.Native.Nat.{_+_, _*_, _<_, _≤_};
 ghost use lib.ListN.{length, take};
 ghost use Rattle.io.specs.Counts.{Counts};
-ghost use Rattle.lister.specs.Bytes.{wordAt, wordsOf};
+ghost use Rattle.lister.specs.Bytes.{wordOf, wordAt, wordsOf};
 
 // A byte, as a word.
 fn byte(x: u8) -> u32
@@ -12,13 +12,19 @@ fn byte(x: u8) -> u32
     x as u32
 }
 
+// Four bytes, the lowest first.
+fn word(a: u8, b: u8, c: u8, d: u8) -> u32
+    ensures { λ r. ⌜ r ≡ wordOf a b c d ⌝ }
+{
+    byte(a) + 256 * byte(b) + 65536 * byte(c) + 16777216 * byte(d)
+}
+
 // The word that starts at a byte.
 fn word_at(bytes: &[u8], at: usize) -> u32
     requires { ⌜ at + 3 < length (now bytes) ⌝ }
     ensures { λ r. ⌜ r ≡ wordAt (now (bytes .entry)) at ⌝ }
 {
-    let low = byte(bytes[at]) + 256 * byte(bytes[at + 1]);
-    low + 65536 * byte(bytes[at + 2]) + 16777216 * byte(bytes[at + 3])
+    word(bytes[at], bytes[at + 1], bytes[at + 2], bytes[at + 3])
 }
 
 // Puts the words that the bytes say at the start of `words`, and answers how many there are. Up to three bytes that are left over say nothing.

@@ -1,9 +1,6 @@
 -- `list_bytes`: the two tests on the length, and then what is said of the words.
-use mathlib.Core.Path.{ap}
 use native.Mathlib.Omega.{arith}
-use denote.Ref.{now}
 use lib.ListN.{length}
-use Rattle.lister.specs.Answer.{WordsSay}
 use Rattle.lister.proofs.Writing.{puts-all, puts-counts}
 use borrow.Author.Needs.{needs}
 use Rattle.lister.proofs.list_bytes.Statement.{statement}

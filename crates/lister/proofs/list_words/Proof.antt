@@ -1,8 +1,6 @@
 -- `list_words`: what the audit says of the words decides between the two texts.
 use native.Mathlib.Omega.{arith}
 use denote.Ref.{now}
-use lib.ListN.{length}
-use Rattle.audit.specs.Answer.{AuditSays}
 use Rattle.lister.proofs.Writing.{puts-all, puts-counts}
 use Rattle.lister.proofs.Lines.{listing≤}
 use borrow.Author.Needs.{needs}

@@ -2,9 +2,8 @@
 use denote.Ref.{now}
 use Rattle.lister.proofs.Following.{length-part, getD-part}
 use Prim.Native.Nat.{_-_}
-use mathlib.Core.Path.{_≡_, sym, _∙_}
-use lib.ListN.{length, take, drop, length-drop}
-use lib.Seq.{length-take-le, getD-take, getD-drop}
+use mathlib.Core.Path.{sym}
+use lib.ListN.{take, drop}
 use Rattle.lister.proofs.Writing.{Writing, write-start, write-step, write-end}
 use borrow.Author.Needs.{needs}
 use native.Mathlib.Omega.{arith}

@@ -1,5 +1,5 @@
 -- `tile_ids`: the link names the blocks that hold the ids still to be copied (`Following`); with none left, all are.
-use mathlib.Core.Path.{_≡_, refl, sym, ap, _∙_}
+use mathlib.Core.Path.{_≡_, refl, ap, _∙_}
 use Prim.Native.Nat.{ℕ, _+_, _*_, _-_, _<_, _≤_, min}
 use native.Mathlib.Omega.{arith}
 use denote.Ref.{now}

@@ -5,8 +5,8 @@ use native.Mathlib.Omega.{arith}
 use denote.Ref.{now}
 use lib.ListN.{length, getD, length-append}
 use Rattle.screen.specs.Screen.{Allowed}
-use Rattle.pool.specs.Words.{edition, start, room, headerWord}
-use Rattle.pool.specs.Sound.{tilesOf, blocksOf}
+use Rattle.pool.specs.Words.{start, room, headerWord}
+use Rattle.pool.specs.Sound.{blocksOf}
 use Rattle.lister.specs.Listing.{screenLine, tileLines, listing}
 use Rattle.lister.proofs.Writing.{puts-then}
 use borrow.Author.Needs.{needs}

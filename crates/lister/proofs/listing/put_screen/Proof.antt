@@ -19,7 +19,7 @@ slice-aggregate-put-field-2 c = search needs
 
 put-field-requires-2 : tie.Need-put-field-requires-2
 unfolding screenLine
-put-field-requires-2 c κs = omega (arith, simp length-append at (c .before .before .before .before .before .before .before .before .pre .1), (c .before .before .before .before .put-field .ensures) .next-is)
+put-field-requires-2 c κs = omega (arith, simp length-append at (c .before .before .before .before .before .before .before .before .pre .1))
 
 slice-aggregate-put-field-3 : tie.Need-slice-aggregate-put-field-3
 slice-aggregate-put-field-3 c = search needs
@@ -29,28 +29,28 @@ pixels-requires c κs = search needs
 
 put-field-requires-3 : tie.Need-put-field-requires-3
 unfolding screenLine
-put-field-requires-3 c κs = rw (c .before .pixels .ensures) (omega (arith, simp length-append at (c .before .before .before .before .before .before .before .before .before .before .before .before .before .before .pre .1), (c .before .before .before .before .before .before .before .before .before .before .put-field .ensures) .next-is, (c .before .before .before .before .before .put-field2 .ensures) .next-is))
+put-field-requires-3 c κs = rw (c .before .pixels .ensures) (omega (arith, simp length-append at (c .before .before .before .before .before .before .before .before .before .before .before .before .before .before .pre .1)))
 
 slice-aggregate-put-field-4 : tie.Need-slice-aggregate-put-field-4
 slice-aggregate-put-field-4 c = search needs
 
 put-field-requires-4 : tie.Need-put-field-requires-4
 unfolding screenLine
-put-field-requires-4 c κs = omega (arith, simp length-append at (c .before .before .before .before .before .before .before .before .before .before .before .before .before .before .before .before .before .before .before .pre .1), (c .before .before .before .before .before .before .before .before .before .before .before .before .before .before .before .put-field .ensures) .next-is, (c .before .before .before .before .before .before .before .before .before .before .put-field2 .ensures) .next-is, (rw (c .before .before .before .before .before .before .pixels .ensures) at (c .before .before .before .before .put-field3 .ensures)) .next-is)
+put-field-requires-4 c κs = omega (arith, simp length-append at (c .before .before .before .before .before .before .before .before .before .before .before .before .before .before .before .before .before .before .before .pre .1), (rw (c .before .before .before .before .before .before .pixels .ensures) at (c .before .before .before .before .put-field3 .ensures)) .next-is)
 
 slice-aggregate-put-field-5 : tie.Need-slice-aggregate-put-field-5
 slice-aggregate-put-field-5 c = search needs
 
 put-field-requires-5 : tie.Need-put-field-requires-5
 unfolding screenLine
-put-field-requires-5 c κs = omega (arith, simp length-append at (c .before .before .before .before .before .before .before .before .before .before .before .before .before .before .before .before .before .before .before .before .before .before .before .before .pre .1), (c .before .before .before .before .before .before .before .before .before .before .before .before .before .before .before .before .before .before .before .before .put-field .ensures) .next-is, (c .before .before .before .before .before .before .before .before .before .before .before .before .before .before .before .put-field2 .ensures) .next-is, (rw (c .before .before .before .before .before .before .before .before .before .before .before .pixels .ensures) at (c .before .before .before .before .before .before .before .before .before .put-field3 .ensures)) .next-is, (c .before .before .before .before .put-field4 .ensures) .next-is)
+put-field-requires-5 c κs = omega (arith, simp length-append at (c .before .before .before .before .before .before .before .before .before .before .before .before .before .before .before .before .before .before .before .before .before .before .before .before .pre .1), (rw (c .before .before .before .before .before .before .before .before .before .before .before .pixels .ensures) at (c .before .before .before .before .before .before .before .before .before .put-field3 .ensures)) .next-is)
 
 slice-aggregate-put-text : tie.Need-slice-aggregate-put-text
 slice-aggregate-put-text c = search needs
 
 put-text-requires : tie.Need-put-text-requires
 unfolding screenLine
-put-text-requires c κs = omega (arith, simp length-append at (c .before .before .before .before .before .before .before .before .before .before .before .before .before .before .before .before .before .before .before .before .before .before .before .before .before .before .before .before .before .pre .1), (c .before .before .before .before .before .before .before .before .before .before .before .before .before .before .before .before .before .before .before .before .before .before .before .before .before .put-field .ensures) .next-is, (c .before .before .before .before .before .before .before .before .before .before .before .before .before .before .before .before .before .before .before .before .put-field2 .ensures) .next-is, (rw (c .before .before .before .before .before .before .before .before .before .before .before .before .before .before .before .before .pixels .ensures) at (c .before .before .before .before .before .before .before .before .before .before .before .before .before .before .put-field3 .ensures)) .next-is, (c .before .before .before .before .before .before .before .before .before .put-field4 .ensures) .next-is, (c .before .before .before .before .put-field5 .ensures) .next-is)
+put-text-requires c κs = omega (arith, simp length-append at (c .before .before .before .before .before .before .before .before .before .before .before .before .before .before .before .before .before .before .before .before .before .before .before .before .before .before .before .before .before .pre .1), (rw (c .before .before .before .before .before .before .before .before .before .before .before .before .before .before .before .before .pixels .ensures) at (c .before .before .before .before .before .before .before .before .before .before .before .before .before .before .put-field3 .ensures)) .next-is)
 
 same-length : tie.Need-same-length
 same-length c = search needs

@@ -1,6 +1,5 @@
 -- `put_tile`: the ids that were copied are the list; with none of them there is no line.
 use mathlib.Core.Path.{_≡_, sym, ap, _∙_}
-use mathlib.Core.List.{[]}
 use denote.Ref.{now}
 use lib.ListN.{length, take}
 use native.Mathlib.Omega.{arith}

@@ -3,8 +3,8 @@ use denote.Ref.{now}
 use Prim.Native.Nat.{_-_, _+_, _<_}
 use native.Mathlib.Omega.{arith}
 use borrow.Author.Needs.{needs}
-use mathlib.Core.Path.{_≡_, sym, ap, _∙_}
-use lib.ListN.{length, take}
+use mathlib.Core.Path.{_≡_, sym, _∙_}
+use lib.ListN.{length}
 use Rattle.lister.specs.Bytes.{wordsOf}
 use Rattle.lister.proofs.Little.{length-wordsOf, getD-wordsOf}
 use Rattle.lister.proofs.Writing.{Writing, write-start, write-step, write-end, take-written, counts}
@@ -39,20 +39,22 @@ loop-less : tie.Need-loop-less Inv-loop μ-loop
 loop-less c = search needs
 
 loop-again : tie.Need-loop-again Inv-loop μ-loop
-loop-again c = let w = length-wordsOf (now (c .before .before .before .before .before .args .bytes)) in
+loop-again c =
+    let bytes = now (c .before .before .before .before .before .args .bytes) in
     let k = c .before .before .loop .k in
-    let lt : k < length (wordsOf (now (c .before .before .before .before .before .args .bytes))) = omega arith in
+    let lt : k < length (wordsOf bytes) = omega (arith, length-wordsOf bytes) in
     let z : 0 + k ≡ k = omega arith in
-    rw z at (write-step _ (c .before .before .loop .inv) lt (c .word-at .ensures ∙ sym (getD-wordsOf _ k lt)))
+    rw z at (write-step _ (c .before .before .loop .inv) lt (c .word-at .ensures ∙ sym (getD-wordsOf bytes k lt)))
 
 same-length : tie.Need-same-length Inv-loop μ-loop
 same-length c = c .before .loop .inv .long
 
 returns : tie.Need-returns Inv-loop μ-loop
-returns c = let w = length-wordsOf (now (c .before .before .before .before .args .bytes)) in (
-  counts _ _ (omega (arith, c .before .loop .inv .long)),
-  rw (← w, write-end (c .before .loop .inv) (omega arith)) (take-written _ _ (omega arith)),
-)
+returns c =
+    let w = length-wordsOf (now (c .before .before .before .before .args .bytes)) in (
+      counts _ _ (omega (arith, c .before .loop .inv .long)),
+      rw (← w, write-end (c .before .loop .inv) (omega arith)) (take-written _ _ (omega arith)),
+    )
 
 pub words-from-spec : {M : Type 1} → statement M
 words-from-spec =

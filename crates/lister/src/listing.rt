@@ -1,7 +1,7 @@
 // The listing of a sound pool: a line for the screen, and one for each tile with entries. Each function puts its text at a place of a buffer, where there is
 // room for it, and answers the place after it.
 ghost use mathlib.Core.Path.{_≡_};
-ghost use Prim.Native.Nat.{_+_, _*_, _^_, _<_, _≤_};
+ghost use Prim.Native.Nat.{_+_, _^_, _<_, _≤_};
 ghost use lib.ListN.{length};
 ghost use Rattle.screen.specs.Screen.{Allowed};
 ghost use Rattle.pool.specs.Words.{edition, start};

@@ -5,7 +5,6 @@ mod listing;
 mod text;
 mod words;
 
-ghost use mathlib.Core.Path.{_≡_};
 ghost use Prim.Native.Nat.{_≤_};
 ghost use lib.ListN.{length, take};
 ghost use Rattle.io.specs.Counts.{Counts};
@@ -55,6 +54,7 @@ fn list_bytes(bytes: &[u8], out: &mut [u8]) -> usize
     list_words(&words[..count], out)
 }
 
+// Writes the text for what it reads.
 fn main() {
     let mut bytes = [0u8; MOST_BYTES + 1];
     let count = io::read_full(STDIN_FILENO, &mut bytes);

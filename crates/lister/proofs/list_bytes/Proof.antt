@@ -16,10 +16,11 @@ same-length : tie.Need-same-length
 same-length c = search needs
 
 returns : tie.Need-returns
-returns c = let P = c .before .before .put-text .ensures in (
-  puts-counts P (omega arith),
-  record { long = λ l. puts-all P (omega arith); odd = λ l. absurd (omega arith); whole = λ l. absurd (omega arith) },
-)
+returns c =
+    let P = c .before .before .put-text .ensures in (
+      puts-counts P (omega arith),
+      record { long = λ l. puts-all P (omega arith); odd = λ l. absurd (omega arith); whole = λ l. absurd (omega arith) },
+    )
 
 slice-aggregate-put-text-2 : tie.Need-slice-aggregate-put-text-2
 slice-aggregate-put-text-2 c = search needs
@@ -31,10 +32,11 @@ same-length-2 : tie.Need-same-length-2
 same-length-2 c = search needs
 
 returns-2 : tie.Need-returns-2
-returns-2 c = let P = c .before .before .put-text2 .ensures in (
-  puts-counts P (omega arith),
-  record { long = λ l. absurd (omega arith); odd = λ l o. puts-all P (omega arith); whole = λ l w. absurd (c .before .before .before .before .before .if2 .taken w) },
-)
+returns-2 c =
+    let P = c .before .before .put-text2 .ensures in (
+      puts-counts P (omega arith),
+      record { long = λ l. absurd (omega arith); odd = λ l o. puts-all P (omega arith); whole = λ l w. absurd (c .before .before .before .before .before .if2 .taken w) },
+    )
 
 slice-aggregate-words-from : tie.Need-slice-aggregate-words-from
 slice-aggregate-words-from c = search needs
@@ -55,10 +57,11 @@ same-length-3 : tie.Need-same-length-3
 same-length-3 c = search needs
 
 returns-3 : tie.Need-returns-3
-returns-3 c = let e = rw (c .before .before .before .before .before .before .words-from .ensures .1) at (c .before .before .list-words .ensures .1) in (
-  c .before .before .list-words .ensures .0,
-  record { long = λ l. absurd (omega arith); odd = λ l o. absurd (o (c .before .before .before .before .before .before .before .before .if2 .left)); whole = λ l w. e },
-)
+returns-3 c =
+    let e = rw (c .before .before .before .before .before .before .words-from .ensures .1) at (c .before .before .list-words .ensures .1) in (
+      c .before .before .list-words .ensures .0,
+      record { long = λ l. absurd (omega arith); odd = λ l o. absurd (o (c .before .before .before .before .before .before .before .before .if2 .left)); whole = λ l w. e },
+    )
 
 pub list-bytes-spec : {M : Type 1} → statement M
 list-bytes-spec =

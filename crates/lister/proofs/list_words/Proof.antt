@@ -26,7 +26,8 @@ same-length : tie.Need-same-length
 same-length c = search needs
 
 returns : tie.Need-returns
-returns c = let none = rw (c .before .before .before .before .before .enum-told .given .1) at (c .before .before .before .before .before .before .before .audit .ensures) in
+returns c =
+    let none = rw (c .before .before .before .before .before .enum-told .given .1) at (c .before .before .before .before .before .before .before .audit .ensures) in
     let P = c .before .before .put-text .ensures in
     (puts-counts P (omega arith), record { unsound = λ n. puts-all P (omega arith); sound = λ s. absurd (none s) })
 
@@ -34,14 +35,16 @@ slice-aggregate-put-listing : tie.Need-slice-aggregate-put-listing
 slice-aggregate-put-listing c = search needs
 
 put-listing-requires : tie.Need-put-listing-requires
-put-listing-requires c κs = let told = rw (c .before .before .before .header .given .1) at (c .before .before .before .before .before .audit .ensures) in
+put-listing-requires c κs =
+    let told = rw (c .before .before .before .header .given .1) at (c .before .before .before .before .before .audit .ensures) in
     (told .0, (told .1, (omega arith, omega (arith, listing≤ (now (c .before .before .before .before .before .before .before .before .args .pool)) (told .0) (omega arith)))))
 
 same-length-2 : tie.Need-same-length-2
 same-length-2 c = search needs
 
 returns-2 : tie.Need-returns-2
-returns-2 c = let told = rw (c .before .before .before .before .before .before .before .header .given .1) at (c .before .before .before .before .before .before .before .before .before .audit .ensures) in
+returns-2 c =
+    let told = rw (c .before .before .before .before .before .before .before .header .given .1) at (c .before .before .before .before .before .before .before .before .before .audit .ensures) in
     let P = c .before .before .before .put-listing .ensures in
     let fits = listing≤ (now (c .before .before .before .before .before .before .before .before .before .before .before .before .args .pool)) (told .0) (omega arith) in
     (puts-counts P (omega arith), record { unsound = λ n. absurd (n (told .0)); sound = λ s. puts-all P (omega arith) })

@@ -44,7 +44,8 @@ loop-less : tie.Need-loop-less Inv-loop μ-loop
 loop-less c = search needs
 
 loop-again : tie.Need-loop-again Inv-loop μ-loop
-loop-again c = let a = c .before .before .before .args in
+loop-again c =
+    let a = c .before .before .before .args in
     let w = length-part (a .from) (a .count) (now (a .pool)) (c .before .before .before .pre .0) in
     write-step _ (c .before .before .loop .inv) (omega arith) (sym (getD-part (a .from) (a .count) (now (a .pool)) _ (omega arith)))
 
@@ -52,7 +53,8 @@ same-length : tie.Need-same-length Inv-loop μ-loop
 same-length c = c .before .loop .inv .long
 
 returns : tie.Need-returns Inv-loop μ-loop
-returns c = let a = c .before .before .args in
+returns c =
+    let a = c .before .before .args in
     let w = length-part (a .from) (a .count) (now (a .pool)) (c .before .before .pre .0) in
     write-end (c .before .loop .inv) (omega arith)
 

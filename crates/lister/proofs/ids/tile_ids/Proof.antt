@@ -14,11 +14,17 @@ use Rattle.lister.proofs.ids.tile_ids.Statement.{statement}
 use Rattle.lister.proofs.ids.tile_ids.Tie as tie
 
 abbrev Inv-loop : tie.InvT-loop
-Inv-loop pool from ids₀ number at entries link₀ done₀ ids link done = Following (edition .ids) (edition .poison) (blockWord edition (tilesOf pool) pool) (blocksOf pool) (listOf edition (tilesOf pool) pool number) ids₀ ids link done
+Inv-loop pool from ids₀ number at entries link₀ done₀ ids link done =
+    Following (edition .ids) (edition .poison) (blockWord edition (tilesOf pool) pool) (blocksOf pool)
+    (listOf edition (tilesOf pool) pool number) ids₀ ids link done
     × (entries ≡ length (listOf edition (tilesOf pool) pool number)) × (entries ≤ length ids₀) × (length ids ≡ length ids₀)
 
 abbrev μ-loop : tie.MeasureT-loop
 μ-loop pool from ids₀ number at entries link₀ done₀ ids link done = entries - done
+
+-- the words of the tile lie within the pool
+words : (s : tie.Start Inv-loop μ-loop) → 8 + 3 * s .args .tile .0 + 3 ≤ length (now (s .args .pool))
+words s = tile-within (now (s .args .pool)) (s .pre .0) (s .args .tile .0) (s .pre .1 .0 .1)
 
 -- the link names a block, which lies within the pool
 inside : (c : tie.In-loop Inv-loop μ-loop) → let a = c .before .before .before .before .before .before .before .before .args in
@@ -33,31 +39,32 @@ wide-requires : tie.Need-wide-requires Inv-loop μ-loop
 wide-requires c κs = search needs
 
 mul-at : tie.Need-mul-at Inv-loop μ-loop
-mul-at c = let s = c .before .before .before in omega (arith, tile-within (now (s .args .pool)) (s .pre .0) (s .args .tile .0) (s .pre .1 .0 .1))
+mul-at c = omega (arith, words (c .before .before .before))
 
 add-at : tie.Need-add-at Inv-loop μ-loop
-add-at c = let s = c .before .before .before in omega (arith, tile-within (now (s .args .pool)) (s .pre .0) (s .args .tile .0) (s .pre .1 .0 .1))
+add-at c = omega (arith, words (c .before .before .before))
 
 mul-wide : tie.Need-mul-wide Inv-loop μ-loop
-mul-wide c = let s = c .before .before .before in omega (arith, tile-within (now (s .args .pool)) (s .pre .0) (s .args .tile .0) (s .pre .1 .0 .1))
+mul-wide c = omega (arith, words (c .before .before .before))
 
 shared-slice-read-wide : tie.Need-shared-slice-read-wide Inv-loop μ-loop
-shared-slice-read-wide c = let s = c .before .before .before .before in omega (arith, tile-within (now (s .args .pool)) (s .pre .0) (s .args .tile .0) (s .pre .1 .0 .1))
+shared-slice-read-wide c = omega (arith, words (c .before .before .before .before))
 
 wide-requires-2 : tie.Need-wide-requires-2 Inv-loop μ-loop
 wide-requires-2 c κs = search needs
 
 add-link : tie.Need-add-link Inv-loop μ-loop
-add-link c = let s = c .before .before .before .before .before in omega (arith, tile-within (now (s .args .pool)) (s .pre .0) (s .args .tile .0) (s .pre .1 .0 .1))
+add-link c = omega (arith, words (c .before .before .before .before .before))
 
 mul-link : tie.Need-mul-link Inv-loop μ-loop
-mul-link c = let s = c .before .before .before .before .before in omega (arith, tile-within (now (s .args .pool)) (s .pre .0) (s .args .tile .0) (s .pre .1 .0 .1))
+mul-link c = omega (arith, words (c .before .before .before .before .before))
 
 shared-slice-read-link : tie.Need-shared-slice-read-link Inv-loop μ-loop
-shared-slice-read-link c = let s = c .before .before .before .before .before .before in omega (arith, tile-within (now (s .args .pool)) (s .pre .0) (s .args .tile .0) (s .pre .1 .0 .1))
+shared-slice-read-link c = omega (arith, words (c .before .before .before .before .before .before))
 
 loop-holds : tie.Need-loop-holds Inv-loop μ-loop
-loop-holds c = let s = c .before .before .before .before .before .before in
+loop-holds c =
+    let s = c .before .before .before .before .before .before in
     let p = now (s .args .pool) in
     let number = c .before .before .before .wide .ensures in
     let entries : c .before .wide2 .result ≡ length (listOf edition (tilesOf p) p (s .args .tile .0)) =
@@ -102,23 +109,29 @@ loop-less c = omega arith
 
 loop-again : tie.Need-loop-again Inv-loop μ-loop
 unfolding blockWord
-loop-again c = let s = c .before .before .before .before .before .before .before .before .before .before .before .before .before .before .before in
+loop-again c =
+    let turn = c .before .before .before .before .before .before .before in
+    let l = turn .before .loop in
+    let s = turn .before .before .before .before .before .before .before .before in
     let p = now (s .args .pool) in
-    let l = c .before .before .before .before .before .before .before .before .loop in
+    let list = listOf edition (tilesOf p) p (turn .before .before .before .before .before .wide .result) in
+    let named = c .before .before .before .before .before .before .wide3 in
     let k = c .before .before .before .before .before .share .result in
-    let place = s .args .from + 32 * c .before .before .before .before .before .before .wide3 .result in
-    let at : place ≡ start edition (tilesOf p) + 32 * (l .link - 1) = omega (arith, s .pre .1 .0 .0, c .before .before .before .before .before .before .wide3 .ensures) in
-    let share : k ≡ min 31 (length (listOf edition (tilesOf p) p (c .before .before .before .before .before .before .before .before .before .before .before .before .wide .result)) - l .done) = (rw (l .inv .1) at (c .before .before .before .before .before .share .ensures)) in
-    let size : length (take k (drop place p)) ≡ k = length-part place k p (omega (arith, inside (c .before .before .before .before .before .before .before))) in
-    let F = follow-step (l .inv .0) (omega arith) k (take k (drop place p)) _ share size (λ j hj. getD-part place k p j hj ∙ ap (λ (x : ℕ). getD p (x + j) 0) at)
-    (c .before .before .before .copy .ensures) in
-    (rw at F, l .inv .1, l .inv .2, omega arith)
+    let place = s .args .from + 32 * named .result in
+    let at : place ≡ start edition (tilesOf p) + 32 * (l .link - 1) = omega (arith, s .pre .1 .0 .0, named .ensures) in
+    let share : k ≡ min 31 (length list - l .done) = (rw (l .inv .1) at (c .before .before .before .before .before .share .ensures)) in
+    let size : length (take k (drop place p)) ≡ k = length-part place k p (omega (arith, inside turn)) in
+    let same : (j : ℕ) → j < k → getD (take k (drop place p)) j 0 ≡ blockWord edition (tilesOf p) p (l .link - 1) j =
+    (λ j hj. getD-part place k p j hj ∙ ap (λ (x : ℕ). getD p (x + j) 0) at) in
+    let next = follow-step (l .inv .0) (omega arith) k (take k (drop place p)) _ share size same (c .before .before .before .copy .ensures) in
+    (rw at next, l .inv .1, l .inv .2, omega arith)
 
 same-length : tie.Need-same-length Inv-loop μ-loop
 same-length c = c .before .loop .inv .3
 
 returns : tie.Need-returns Inv-loop μ-loop
-returns c = let s = c .before .before .before .before .before .before .before .before in
+returns c =
+    let s = c .before .before .before .before .before .before .before .before in
     let e = follow-end (c .before .loop .inv .0) (omega arith) in
     let list = listOf edition (tilesOf (now (s .args .pool))) (now (s .args .pool)) in (
       counts _ _ (omega arith),

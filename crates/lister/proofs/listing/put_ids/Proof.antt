@@ -27,7 +27,8 @@ shared-slice-read-put-id : tie.Need-shared-slice-read-put-id Inv-loop μ-loop
 shared-slice-read-put-id c = search needs
 
 put-id-requires : tie.Need-put-id-requires Inv-loop μ-loop
-put-id-requires c κs = let l = c .before .before .before .loop in
+put-id-requires c κs =
+    let l = c .before .before .before .loop in
     let ids = now (c .before .before .before .before .before .before .args .ids) in
     remains-room (field space (getD ids (l .k) 0)) (idsText (drop (l .k + 1) ids)) (rw (idsText-next ids (l .k) (omega arith)) at (l .inv .1)) (c .before .before .before .before .before .before .pre)
 
@@ -38,7 +39,8 @@ loop-less : tie.Need-loop-less Inv-loop μ-loop
 loop-less c = search needs
 
 loop-again : tie.Need-loop-again Inv-loop μ-loop
-loop-again c = let l = c .before .before .before .before .before .before .loop in
+loop-again c =
+    let l = c .before .before .before .before .before .before .loop in
     (omega arith, remains-then (rw (idsText-next (now (c .before .before .before .before .before .before .before .before .before .args .ids)) (l .k) (omega arith)) at (l .inv .1)) (c .before .before .put-id .ensures))
 
 same-length : tie.Need-same-length Inv-loop μ-loop

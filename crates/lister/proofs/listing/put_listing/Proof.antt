@@ -28,12 +28,14 @@ shared-slice-read-put-screen c = omega (arith, c .before .before .before .before
 
 put-screen-requires : tie.Need-put-screen-requires
 unfolding listing
-put-screen-requires c κs = let s = c .before .before .before .before .before in
+put-screen-requires c κs =
+    let s = c .before .before .before .before .before in
     (subst Allowed (sym (s .pre .1 .0 .screen)) (s .pre .0 .opened .screen), omega (arith, ap length (line s), simp length-append at (s .pre .1 .1 .1)))
 
 put-tiles-requires : tie.Need-put-tiles-requires
 unfolding listing
-put-tiles-requires c κs = let s = c .before .before .before .before .before .before .before .before .before .before in
+put-tiles-requires c κs =
+    let s = c .before .before .before .before .before .before .before .before .before .before in
     let h = s .pre .1 .0 in (
       s .pre .0,
       (
@@ -50,7 +52,8 @@ same-length-2 c = search needs
 
 returns : tie.Need-returns
 unfolding listing
-returns c = let s = c .before .before .before .before .before .before .before .before .before .before .before .before .before .before .before in
+returns c =
+    let s = c .before .before .before .before .before .before .before .before .before .before .before .before .before .before .before in
     puts-then (rw (line s) at (c .before .before .before .before .before .before .before .before .before .put-screen .ensures)) (rw (s .pre .1 .0 .tiles) at (c .before .before .before .before .put-tiles .ensures))
 
 pub put-listing-spec : {M : Type 1} → statement M

@@ -29,7 +29,8 @@ same-length : tie.Need-same-length
 same-length c = search needs
 
 returns : tie.Need-returns
-returns c = let e = rw (c .if1 .taken) at (c .before .before .before .tile-ids .ensures .1) in
+returns c =
+    let e = rw (c .if1 .taken) at (c .before .before .before .tile-ids .ensures .1) in
     rw (← e) (puts-none _ _)
 
 slice-reshare-prefix-put-line : tie.Need-slice-reshare-prefix-put-line

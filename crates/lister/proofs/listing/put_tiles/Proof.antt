@@ -23,14 +23,16 @@ loop-holds : tie.Need-loop-holds Inv-loop μ-loop
 loop-holds c = (omega arith, puts-none _ _, refl)
 
 put-tile-requires : tie.Need-put-tile-requires Inv-loop μ-loop
-put-tile-requires c κs = let s = c .before .before .before .before .before .before .before in
+put-tile-requires c κs =
+    let s = c .before .before .before .before .before .before .before in
     let p = now (s .args .pool) in
     let l = c .before .before .before .loop in
-    let lt : l .t < tilesOf p = omega (arith, s .pre .1 .0 .1) in (
+    let lt : l .t < tilesOf p = omega (arith, s .pre .1 .0 .1) in
+    let grow = tileLines-grow p (l .t) (s .args .tiles) (omega arith) in (
       s .pre .0,
       (
         (s .pre .1 .0 .0, lt),
-        (omega (arith, list≤ p (s .pre .0) (l .t) lt, s .pre .1 .1 .0), omega (arith, tileLines-grow p (l .t) (s .args .tiles) (omega arith), l .inv .1 .next-is, puts-long (l .inv .1), s .pre .1 .1 .1)),
+        (omega (arith, list≤ p (s .pre .0) (l .t) lt, s .pre .1 .1 .0), omega (arith, grow, l .inv .1 .next-is, puts-long (l .inv .1), s .pre .1 .1 .1)),
       ),
     )
 
@@ -41,8 +43,11 @@ loop-less : tie.Need-loop-less Inv-loop μ-loop
 loop-less c = search needs
 
 loop-again : tie.Need-loop-again Inv-loop μ-loop
-loop-again c = let l = c .before .before .before .before .before .before .before .before .loop in
-    (omega arith, rw (tileLines-next (now (c .before .before .before .before .before .before .before .before .before .before .before .before .args .pool)) (l .t)) (puts-then (l .inv .1) (c .before .before .before .before .put-tile .ensures)), omega arith)
+loop-again c =
+    let l = c .before .before .before .before .before .before .before .before .loop in
+    let s = c .before .before .before .before .before .before .before .before .before .before .before .before in
+    let put = puts-then (l .inv .1) (c .before .before .before .before .put-tile .ensures) in
+    (omega arith, rw (tileLines-next (now (s .args .pool)) (l .t)) put, omega arith)
 
 same-length : tie.Need-same-length Inv-loop μ-loop
 same-length c = c .before .loop .inv .2
@@ -51,7 +56,8 @@ same-length-2 : tie.Need-same-length-2 Inv-loop μ-loop
 same-length-2 c = puts-long (c .before .loop .inv .1)
 
 returns : tie.Need-returns Inv-loop μ-loop
-returns c = let e : c .before .loop .t ≡ c .before .before .before .before .before .args .tiles = omega arith in
+returns c =
+    let e : c .before .loop .t ≡ c .before .before .before .before .before .args .tiles = omega arith in
     rw e at (c .before .loop .inv .1)
 
 pub put-tiles-spec : {M : Type 1} → statement M

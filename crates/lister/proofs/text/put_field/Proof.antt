@@ -10,11 +10,13 @@ use Rattle.lister.proofs.text.put_field.Tie as tie
 
 put-text-requires : tie.Need-put-text-requires
 unfolding field
-put-text-requires c κs = let a = c .before .before .before .args in omega (arith, length-append (now (a .name)) (numeral (a .n)))
+put-text-requires c κs =
+    let a = c .before .before .before .args in omega (arith, length-append (now (a .name)) (numeral (a .n)))
 
 put-number-requires : tie.Need-put-number-requires
 unfolding field
-put-number-requires c κs = let a = c .before .before .before .before .before .before .before .args in omega (arith, length-append (now (a .name)) (numeral (a .n)))
+put-number-requires c κs =
+    let a = c .before .before .before .before .before .before .before .args in omega (arith, length-append (now (a .name)) (numeral (a .n)))
 
 same-length : tie.Need-same-length
 same-length c = search needs

@@ -80,7 +80,8 @@ module _ (p : List ℕ) (S : Sound edition p) where
       let x = tileOf (S .state) t in
       let before = tileLines≤ t (omega arith) in
       let ht : t < length (S .state .tiles) = omega (arith, S .shows .tiled) in
-      let more : blocksInTiles (drop t (S .state .tiles)) ≡ length (x .blocks) + blocksInTiles (drop (suc t) (S .state .tiles)) = ap blocksInTiles (drop-cons (S .state .tiles) t empty ht) in
+      let rest = drop (suc t) (S .state .tiles) in
+      let more : blocksInTiles (drop t (S .state .tiles)) ≡ length (x .blocks) + blocksInTiles rest = ap blocksInTiles (drop-cons (S .state .tiles) t empty ht) in
       let line = tileLine≤ t (x .list) (length (x .blocks)) (omega (arith, S .opened .screen .tiles≤)) (blocks-enough edition-fair k) (k .in-range) in
       rw (listOf-tile edition-fair k) (omega (arith, length-append (tileLines p t) (tileLine t (x .list))))
 

@@ -36,18 +36,24 @@ slice-aggregate-put-listing c = search needs
 
 put-listing-requires : tie.Need-put-listing-requires
 put-listing-requires c κs =
-    let told = rw (c .before .before .before .header .given .1) at (c .before .before .before .before .before .audit .ensures) in
-    (told .0, (told .1, (omega arith, omega (arith, listing≤ (now (c .before .before .before .before .before .before .before .before .args .pool)) (told .0) (omega arith)))))
+    let header = c .before .before .before in
+    let audited = header .before .before in
+    let told = rw (header .header .given .1) at (audited .audit .ensures) in
+    (told .0, (told .1, (omega arith, omega (arith, listing≤ (now (audited .before .before .before .args .pool)) (told .0) (omega arith)))))
 
 same-length-2 : tie.Need-same-length-2
 same-length-2 c = search needs
 
 returns-2 : tie.Need-returns-2
 returns-2 c =
-    let told = rw (c .before .before .before .before .before .before .before .header .given .1) at (c .before .before .before .before .before .before .before .before .before .audit .ensures) in
-    let P = c .before .before .before .put-listing .ensures in
-    let fits = listing≤ (now (c .before .before .before .before .before .before .before .before .before .before .before .before .args .pool)) (told .0) (omega arith) in
-    (puts-counts P (omega arith), record { unsound = λ n. absurd (n (told .0)); sound = λ s. puts-all P (omega arith) })
+    let put = c .before .before .before in
+    let header = put .before .before .before .before in
+    let audited = header .before .before in
+    let told = rw (header .header .given .1) at (audited .audit .ensures) in
+    let fits = listing≤ (now (audited .before .before .before .args .pool)) (told .0) (omega arith) in (
+      puts-counts (put .put-listing .ensures) (omega arith),
+      record { unsound = λ n. absurd (n (told .0)); sound = λ s. puts-all (put .put-listing .ensures) (omega arith) },
+    )
 
 pub list-words-spec : {M : Type 1} → statement M
 list-words-spec =

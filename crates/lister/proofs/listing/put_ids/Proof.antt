@@ -29,8 +29,10 @@ shared-slice-read-put-id c = search needs
 put-id-requires : tie.Need-put-id-requires Inv-loop μ-loop
 put-id-requires c κs =
     let l = c .before .before .before .loop in
-    let ids = now (c .before .before .before .before .before .before .args .ids) in
-    remains-room (field space (getD ids (l .k) 0)) (idsText (drop (l .k + 1) ids)) (rw (idsText-next ids (l .k) (omega arith)) at (l .inv .1)) (c .before .before .before .before .before .before .pre)
+    let s = c .before .before .before .before .before .before in
+    let ids = now (s .args .ids) in
+    let more = rw (idsText-next ids (l .k) (omega arith)) at (l .inv .1) in
+    remains-room (field space (getD ids (l .k) 0)) (idsText (drop (l .k + 1) ids)) more (s .pre)
 
 add-k : tie.Need-add-k Inv-loop μ-loop
 add-k c = search needs
@@ -41,7 +43,9 @@ loop-less c = search needs
 loop-again : tie.Need-loop-again Inv-loop μ-loop
 loop-again c =
     let l = c .before .before .before .before .before .before .loop in
-    (omega arith, remains-then (rw (idsText-next (now (c .before .before .before .before .before .before .before .before .before .args .ids)) (l .k) (omega arith)) at (l .inv .1)) (c .before .before .put-id .ensures))
+    let ids = now (c .before .before .before .before .before .before .before .before .before .args .ids) in
+    let more = rw (idsText-next ids (l .k) (omega arith)) at (l .inv .1) in
+    (omega arith, remains-then more (c .before .before .put-id .ensures))
 
 same-length : tie.Need-same-length Inv-loop μ-loop
 same-length c = c .before .loop .inv .1 .long

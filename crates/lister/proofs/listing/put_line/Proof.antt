@@ -23,21 +23,30 @@ put-text-requires c κs = omega (arith, simp length-append at (c .before .before
 
 put-ids-requires : tie.Need-put-ids-requires
 unfolding lineOf
-put-ids-requires c κs = omega (arith, simp length-append at (c .before .before .before .before .before .before .before .before .before .before .before .before .before .pre))
+put-ids-requires c κs =
+    let colon = c .before .before .before in
+    omega (arith, simp length-append at (colon .before .before .before .before .before .before .before .before .before .before .pre))
 
 slice-aggregate-put-text-2 : tie.Need-slice-aggregate-put-text-2
 slice-aggregate-put-text-2 c = search needs
 
 put-text-requires-2 : tie.Need-put-text-requires-2
 unfolding lineOf
-put-text-requires-2 c κs = omega (arith, simp length-append at (c .before .before .before .before .before .before .before .before .before .before .before .before .before .before .before .before .before .before .pre))
+put-text-requires-2 c κs =
+    let ids = c .before .before .before .before in
+    omega (arith, simp length-append at (ids .before .before .before .before .before .before .before .before .before .before .before .before .before .before .pre))
 
 same-length : tie.Need-same-length
 same-length c = search needs
 
 returns : tie.Need-returns
 unfolding lineOf
-returns c = puts-then (puts-then (puts-then (c .before .before .before .before .before .before .before .before .before .before .before .before .before .before .before .before .put-field .ensures) (c .before .before .before .before .before .before .before .before .before .before .before .put-text .ensures)) (c .before .before .before .before .before .before .before .put-ids .ensures)) (c .before .before .put-text2 .ensures)
+returns c =
+    let last = c .before .before in
+    let ids = last .before .before .before .before .before in
+    let colon = ids .before .before .before .before in
+    let name = colon .before .before .before .before .before in
+    puts-then (puts-then (puts-then (name .put-field .ensures) (colon .put-text .ensures)) (ids .put-ids .ensures)) (last .put-text2 .ensures)
 
 pub put-line-spec : {M : Type 1} → statement M
 put-line-spec =

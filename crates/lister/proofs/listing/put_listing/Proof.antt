@@ -29,18 +29,22 @@ shared-slice-read-put-screen c = omega (arith, c .before .before .before .before
 put-screen-requires : tie.Need-put-screen-requires
 unfolding listing
 put-screen-requires c κs =
-    let s = c .before .before .before .before .before in
-    (subst Allowed (sym (s .pre .1 .0 .screen)) (s .pre .0 .opened .screen), omega (arith, ap length (line s), simp length-append at (s .pre .1 .1 .1)))
+    let s = c .before .before .before .before .before in (
+      subst Allowed (sym (s .pre .1 .0 .screen)) (s .pre .0 .opened .screen),
+      omega (arith, ap length (line s), simp length-append at (s .pre .1 .1 .1)),
+    )
 
 put-tiles-requires : tie.Need-put-tiles-requires
 unfolding listing
 put-tiles-requires c κs =
-    let s = c .before .before .before .before .before .before .before .before .before .before in
-    let h = s .pre .1 .0 in (
+    let at = c .before .before .before .before in
+    let s = at .before .before .before .before .before .before in
+    let h = s .pre .1 .0 in
+    let lines = ap (λ n. length (tileLines (now (s .args .pool)) n)) (h .tiles) in (
       s .pre .0,
       (
         (h .start, h .tiles),
-        (s .pre .1 .1 .0, omega (arith, ap length (line s), ap (λ n. length (tileLines (now (s .args .pool)) n)) (h .tiles), simp length-append at (s .pre .1 .1 .1), c .before .before .before .before .put-screen .ensures .next-is)),
+        (s .pre .1 .1 .0, omega (arith, ap length (line s), lines, simp length-append at (s .pre .1 .1 .1), at .put-screen .ensures .next-is)),
       ),
     )
 
@@ -53,8 +57,10 @@ same-length-2 c = search needs
 returns : tie.Need-returns
 unfolding listing
 returns c =
-    let s = c .before .before .before .before .before .before .before .before .before .before .before .before .before .before .before in
-    puts-then (rw (line s) at (c .before .before .before .before .before .before .before .before .before .put-screen .ensures)) (rw (s .pre .1 .0 .tiles) at (c .before .before .before .before .put-tiles .ensures))
+    let tiles = c .before .before .before .before in
+    let screen = tiles .before .before .before .before .before in
+    let s = screen .before .before .before .before .before .before in
+    puts-then (rw (line s) at (screen .put-screen .ensures)) (rw (s .pre .1 .0 .tiles) at (tiles .put-tiles .ensures))
 
 pub put-listing-spec : {M : Type 1} → statement M
 put-listing-spec =

@@ -29,35 +29,55 @@ pixels-requires c κs = search needs
 
 put-field-requires-3 : tie.Need-put-field-requires-3
 unfolding screenLine
-put-field-requires-3 c κs = rw (c .before .pixels .ensures) (omega (arith, simp length-append at (c .before .before .before .before .before .before .before .before .before .before .before .before .before .before .pre .1)))
+put-field-requires-3 c κs =
+    let height = c .before .before .before .before .before in
+    rw (c .before .pixels .ensures) (omega (arith, simp length-append at (height .before .before .before .before .before .before .before .before .before .pre .1)))
 
 slice-aggregate-put-field-4 : tie.Need-slice-aggregate-put-field-4
 slice-aggregate-put-field-4 c = search needs
 
 put-field-requires-4 : tie.Need-put-field-requires-4
 unfolding screenLine
-put-field-requires-4 c κs = omega (arith, simp length-append at (c .before .before .before .before .before .before .before .before .before .before .before .before .before .before .before .before .before .before .before .pre .1), (rw (c .before .before .before .before .before .before .pixels .ensures) at (c .before .before .before .before .put-field3 .ensures)) .next-is)
+put-field-requires-4 c κs =
+    let side = c .before .before .before .before in
+    let named = rw (side .before .before .pixels .ensures) at (side .put-field3 .ensures) in
+    omega (arith, simp length-append at (side .before .before .before .before .before .before .before .before .before .before .before .before .before .before .before .pre .1), named .next-is)
 
 slice-aggregate-put-field-5 : tie.Need-slice-aggregate-put-field-5
 slice-aggregate-put-field-5 c = search needs
 
 put-field-requires-5 : tie.Need-put-field-requires-5
 unfolding screenLine
-put-field-requires-5 c κs = omega (arith, simp length-append at (c .before .before .before .before .before .before .before .before .before .before .before .before .before .before .before .before .before .before .before .before .before .before .before .before .pre .1), (rw (c .before .before .before .before .before .before .before .before .before .before .before .pixels .ensures) at (c .before .before .before .before .before .before .before .before .before .put-field3 .ensures)) .next-is)
+put-field-requires-5 c κs =
+    let side = c .before .before .before .before .before .before .before .before .before in
+    let named = rw (side .before .before .pixels .ensures) at (side .put-field3 .ensures) in
+    omega (arith, simp length-append at (side .before .before .before .before .before .before .before .before .before .before .before .before .before .before .before .pre .1), named .next-is)
 
 slice-aggregate-put-text : tie.Need-slice-aggregate-put-text
 slice-aggregate-put-text c = search needs
 
 put-text-requires : tie.Need-put-text-requires
 unfolding screenLine
-put-text-requires c κs = omega (arith, simp length-append at (c .before .before .before .before .before .before .before .before .before .before .before .before .before .before .before .before .before .before .before .before .before .before .before .before .before .before .before .before .before .pre .1), (rw (c .before .before .before .before .before .before .before .before .before .before .before .before .before .before .before .before .pixels .ensures) at (c .before .before .before .before .before .before .before .before .before .before .before .before .before .before .put-field3 .ensures)) .next-is)
+put-text-requires c κs =
+    let side = c .before .before .before .before .before .before .before .before .before .before .before .before .before .before in
+    let named = rw (side .before .before .pixels .ensures) at (side .put-field3 .ensures) in
+    omega (arith, simp length-append at (side .before .before .before .before .before .before .before .before .before .before .before .before .before .before .before .pre .1), named .next-is)
 
 same-length : tie.Need-same-length
 same-length c = search needs
 
 returns : tie.Need-returns
 unfolding screenLine
-returns c = puts-then (puts-then (puts-then (puts-then (puts-then (c .before .before .before .before .before .before .before .before .before .before .before .before .before .before .before .before .before .before .before .before .before .before .before .before .before .before .before .before .put-field .ensures) (c .before .before .before .before .before .before .before .before .before .before .before .before .before .before .before .before .before .before .before .before .before .before .before .put-field2 .ensures)) (rw (c .before .before .before .before .before .before .before .before .before .before .before .before .before .before .before .before .before .before .before .pixels .ensures) at (c .before .before .before .before .before .before .before .before .before .before .before .before .before .before .before .before .before .put-field3 .ensures))) (c .before .before .before .before .before .before .before .before .before .before .before .before .put-field4 .ensures)) (c .before .before .before .before .before .before .before .put-field5 .ensures)) (c .before .before .put-text .ensures)
+returns c =
+    let last = c .before .before in
+    let free = last .before .before .before .before .before in
+    let blocks = free .before .before .before .before .before in
+    let side = blocks .before .before .before .before .before in
+    let named = rw (side .before .before .pixels .ensures) at (side .put-field3 .ensures) in
+    let height = side .before .before .before .before .before .before in
+    let width = height .before .before .before .before .before in
+    let size = puts-then (width .put-field .ensures) (height .put-field2 .ensures) in
+    puts-then (puts-then (puts-then (puts-then size named) (blocks .put-field4 .ensures)) (free .put-field5 .ensures)) (last .put-text .ensures)
 
 pub put-screen-spec : {M : Type 1} → statement M
 put-screen-spec =

@@ -14,13 +14,13 @@ use Rattle.lister.proofs.listing.put_tiles.Statement.{statement}
 use Rattle.lister.proofs.listing.put_tiles.Tie as tie
 
 abbrev Inv-loop : tie.InvT-loop
-Inv-loop pool from tiles ids₀ out₀ at next₀ t₀ ids out next t = (t ≤ tiles) × Puts out₀ at (tileLines pool t) out next × (length ids ≡ length ids₀)
+Inv-loop pool from tiles ids₀ out₀ at next₀ t₀ ids out next t = Puts out₀ at (tileLines pool t) out next × (t ≤ tiles) × (length ids ≡ length ids₀)
 
 abbrev μ-loop : tie.MeasureT-loop
 μ-loop pool from tiles ids₀ out₀ at next₀ t₀ ids out next t = tiles - t
 
 loop-holds : tie.Need-loop-holds Inv-loop μ-loop
-loop-holds c = (omega arith, puts-none _ _, refl)
+loop-holds c = (puts-none _ _, omega arith, refl)
 
 put-tile-requires : tie.Need-put-tile-requires Inv-loop μ-loop
 put-tile-requires c κs =
@@ -32,7 +32,7 @@ put-tile-requires c κs =
       s .pre .0,
       (
         (s .pre .1 .0 .0, lt),
-        (omega (arith, list≤ p (s .pre .0) (l .t) lt, s .pre .1 .1 .0), omega (arith, grow, l .inv .1 .next-is, puts-long (l .inv .1), s .pre .1 .1 .1)),
+        (omega (arith, list≤ p (s .pre .0) (l .t) lt, s .pre .1 .1 .0), omega (arith, grow, l .inv .0 .next-is, puts-long (l .inv .0), s .pre .1 .1 .1)),
       ),
     )
 
@@ -46,19 +46,19 @@ loop-again : tie.Need-loop-again Inv-loop μ-loop
 loop-again c =
     let l = c .before .before .before .before .before .before .before .before .loop in
     let s = c .before .before .before .before .before .before .before .before .before .before .before .before in
-    let put = puts-then (l .inv .1) (c .before .before .before .before .put-tile .ensures) in
-    (omega arith, rw (tileLines-next (now (s .args .pool)) (l .t)) put, omega arith)
+    let put = puts-then (l .inv .0) (c .before .before .before .before .put-tile .ensures) in
+    (rw (tileLines-next (now (s .args .pool)) (l .t)) put, omega arith, omega arith)
 
 same-length : tie.Need-same-length Inv-loop μ-loop
 same-length c = c .before .loop .inv .2
 
 same-length-2 : tie.Need-same-length-2 Inv-loop μ-loop
-same-length-2 c = puts-long (c .before .loop .inv .1)
+same-length-2 c = puts-long (c .before .loop .inv .0)
 
 returns : tie.Need-returns Inv-loop μ-loop
 returns c =
     let e : c .before .loop .t ≡ c .before .before .before .before .before .args .tiles = omega arith in
-    rw e at (c .before .loop .inv .1)
+    rw e at (c .before .loop .inv .0)
 
 pub put-tiles-spec : {M : Type 1} → statement M
 put-tiles-spec =

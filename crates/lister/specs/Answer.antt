@@ -1,0 +1,27 @@
+-- What the lister writes for the bytes that it reads.
+use mathlib.Core.Path.{_≡_}
+use mathlib.Core.List.{List, [], _∷_}
+use Prim.Native.Nat.{ℕ, _%_, _≤_, _<_}
+use lib.ListN.{length}
+use Rattle.pool.specs.Words.{edition}
+use Rattle.pool.specs.Sound.{Sound}
+use Rattle.lister.specs.Bytes.{wordsOf}
+use Rattle.lister.specs.Listing.{listing}
+
+-- "too long\n" and "damaged\n"
+abbrev pub too-long : List ℕ
+too-long = 116 ∷ 111 ∷ 111 ∷ 32 ∷ 108 ∷ 111 ∷ 110 ∷ 103 ∷ 10 ∷ []
+
+abbrev pub damaged : List ℕ
+damaged = 100 ∷ 97 ∷ 109 ∷ 97 ∷ 103 ∷ 101 ∷ 100 ∷ 10 ∷ []
+
+-- the text for the words p
+pub record WordsSay (p text : List ℕ) : Type 0 where
+  pub unsound : (Sound edition p → ⊥) → text ≡ damaged
+  pub sound : Sound edition p → text ≡ listing p
+
+-- the text for bytes: the length is tested first, then whether they are whole words
+pub record BytesSay (bytes text : List ℕ) : Type 0 where
+  pub long : 65536 < length bytes → text ≡ too-long
+  pub odd : length bytes ≤ 65536 → (length bytes % 4 ≡ 0 → ⊥) → text ≡ damaged
+  pub whole : length bytes ≤ 65536 → length bytes % 4 ≡ 0 → WordsSay (wordsOf bytes) text

@@ -1,0 +1,57 @@
+// The ids of a tile, copied from its chain, which is followed once.
+ghost use mathlib.Core.Path.{_≡_};
+ghost use Prim.Native.Nat.{_+_, _<_, _≤_, min};
+ghost use lib.ListN.{length, take, drop};
+ghost use Rattle.io.specs.Counts.{Counts};
+ghost use Rattle.pool.specs.Words.{edition, start};
+ghost use Rattle.pool.specs.Sound.{Sound, tilesOf};
+ghost use Rattle.pool.specs.Lists.{listOf};
+ghost use Rattle.pool.specs.Opening.{written};
+use numbers::wide;
+use pool::BLOCK_IDS;
+use pool::BLOCK_WORDS;
+use pool::HEADER_WORDS;
+use pool::TILE_WORDS;
+use screen::Tile;
+
+// `count` words of the pool, copied to a place of `ids`.
+fn copy(pool: &[u32], from: usize, count: usize, ids: &mut [u32], at: usize)
+    requires { ⌜ (from + count ≤ length (now pool)) × (at + count ≤ length (now ids)) ⌝ }
+    ensures { λ r. ⌜ now (ids .exit) ≡ written (now (ids .entry)) at (take count (drop from (now (pool .entry)))) ⌝ }
+{
+    let mut k = 0;
+    while k < count {
+        ids[at + k] = pool[from + k];
+        k += 1;
+    }
+}
+
+// How many of q entries a block holds.
+fn share(q: usize) -> usize
+    ensures { λ r. ⌜ r ≡ min (edition .ids) q ⌝ }
+{
+    if q < BLOCK_IDS { q } else { BLOCK_IDS }
+}
+
+// Puts the list of a tile of a sound pool, whose blocks start at `from`, at the start of `ids`, and answers how many ids there are.
+pub fn tile_ids(pool: &[u32], from: usize, tile: Tile, ids: &mut [u32]) -> usize
+    requires { ⌜ Sound edition (now pool) ⌝ }
+    requires { ⌜ (from ≡ start edition (tilesOf (now pool))) × (tile .0 < tilesOf (now pool)) ⌝ }
+    requires { ⌜ length (listOf edition (tilesOf (now pool)) (now pool) (tile .0)) ≤ length (now ids) ⌝ }
+    ensures within { λ r. ⌜ Counts r (now (ids .exit)) ⌝ }
+    ensures whole { λ r. ⌜ take r (now (ids .exit)) ≡ listOf edition (tilesOf (now (pool .entry))) (now (pool .entry)) (tile .0) ⌝ }
+{
+    let number = wide(tile.0);
+    let at = HEADER_WORDS + TILE_WORDS * number;
+    let entries = wide(pool[at]);
+    let mut link = pool[at + 1];
+    let mut done = 0;
+    while done < entries {
+        let block = from + BLOCK_WORDS * wide(link - 1);
+        let k = share(entries - done);
+        copy(pool, block, k, ids, done);
+        link = pool[block + BLOCK_IDS];
+        done += k;
+    }
+    done
+}

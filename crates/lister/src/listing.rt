@@ -1,0 +1,131 @@
+// The listing of a sound pool: a line for the screen, and one for each tile with entries. Each function puts its text at a place of a buffer, where there is
+// room for it, and answers the place after it.
+ghost use mathlib.Core.Path.{_≡_};
+ghost use Prim.Native.Nat.{_+_, _^_, _<_, _≤_};
+ghost use lib.ListN.{length};
+ghost use Rattle.screen.specs.Screen.{Allowed};
+ghost use Rattle.pool.specs.Words.{edition, start};
+ghost use Rattle.pool.specs.Sound.{Sound, tilesOf};
+ghost use Rattle.pool.specs.Lists.{listOf};
+ghost use Rattle.audit.specs.Answer.{HeaderOf};
+ghost use Rattle.lister.specs.Text.{field, Puts};
+ghost use Rattle.lister.specs.Listing.{space, screenLine, idsText, lineOf, tileLine, tileLines, listing};
+use crate::ids::tile_ids;
+use crate::text::put_field;
+use crate::text::put_text;
+use audit::Header;
+use screen::Screen;
+use screen::Tile;
+
+// The side of a tile, in pixels.
+fn pixels(s: u32) -> u32
+    requires { ⌜ s ≤ 6 ⌝ }
+    ensures { λ r. ⌜ r ≡ 2 ^ s ⌝ }
+{
+    1 << s
+}
+
+// The screen, the side of a tile in pixels, how many blocks there are, and how many are free.
+fn put_screen(screen: Screen, blocks: u32, free: u32, out: &mut [u8], at: usize) -> usize
+    requires { ⌜ Allowed screen ⌝ }
+    requires { ⌜ at + length (screenLine (screen .width) (screen .height) (2 ^ screen .s) blocks free) ≤ length (now out) ⌝ }
+    ensures { λ r. ⌜ Puts (now (out .entry)) at (screenLine (screen .width) (screen .height) (2 ^ screen .s) blocks free) (now (out .exit)) r ⌝ }
+{
+    let width = put_field(b"screen ", screen.width, out, at);
+    let height = put_field(b" ", screen.height, out, width);
+    let side = put_field(b" tile ", pixels(screen.s), out, height);
+    let all = put_field(b" blocks ", blocks, out, side);
+    let last = put_field(b" free ", free, out, all);
+    put_text(b"\n", out, last)
+}
+
+// An id, after a space.
+fn put_id(id: u32, out: &mut [u8], at: usize) -> usize
+    requires { ⌜ at + length (field space id) ≤ length (now out) ⌝ }
+    ensures { λ r. ⌜ Puts (now (out .entry)) at (field space id) (now (out .exit)) r ⌝ }
+{
+    put_field(b" ", id, out, at)
+}
+
+// Each id after a space.
+fn put_ids(ids: &[u32], out: &mut [u8], at: usize) -> usize
+    requires { ⌜ at + length (idsText (now ids)) ≤ length (now out) ⌝ }
+    ensures { λ r. ⌜ Puts (now (out .entry)) at (idsText (now (ids .entry))) (now (out .exit)) r ⌝ }
+{
+    let mut next = at;
+    let mut k = 0;
+    while k < ids.len() {
+        next = put_id(ids[k], out, next);
+        k += 1;
+    }
+    next
+}
+
+// The line of a tile with these ids.
+fn put_line(tile: Tile, ids: &[u32], out: &mut [u8], at: usize) -> usize
+    requires { ⌜ at + length (lineOf (tile .0) (now ids)) ≤ length (now out) ⌝ }
+    ensures { λ r. ⌜ Puts (now (out .entry)) at (lineOf (tile .0) (now (ids .entry))) (now (out .exit)) r ⌝ }
+{
+    let named = put_field(b"tile ", tile.0, out, at);
+    let parted = put_text(b":", out, named);
+    let listed = put_ids(ids, out, parted);
+    put_text(b"\n", out, listed)
+}
+
+// The line of a tile of a sound pool, and nothing where its list is empty. `ids` has room for the list.
+fn put_tile(
+    pool: &[u32],
+    from: usize,
+    tile: Tile,
+    ids: &mut [u32],
+    out: &mut [u8],
+    at: usize,
+) -> usize
+    requires { ⌜ Sound edition (now pool) ⌝ }
+    requires { ⌜ (from ≡ start edition (tilesOf (now pool))) × (tile .0 < tilesOf (now pool)) ⌝ }
+    requires { ⌜ length (listOf edition (tilesOf (now pool)) (now pool) (tile .0)) ≤ length (now ids) ⌝ }
+    requires { ⌜ at + length (tileLine (tile .0) (listOf edition (tilesOf (now pool)) (now pool) (tile .0))) ≤ length (now out) ⌝ }
+    ensures { λ r. ⌜ Puts (now (out .entry)) at (tileLine (tile .0) (listOf edition (tilesOf (now (pool .entry))) (now (pool .entry)) (tile .0))) (now (out .exit)) r ⌝ }
+{
+    let count = tile_ids(pool, from, tile, ids);
+    if count == 0 {
+        return at;
+    }
+    put_line(tile, &ids[..count], out, at)
+}
+
+// The lines of all tiles of a sound pool. `ids` has room for every list.
+fn put_tiles(
+    pool: &[u32],
+    from: usize,
+    tiles: u32,
+    ids: &mut [u32],
+    out: &mut [u8],
+    at: usize,
+) -> usize
+    requires { ⌜ Sound edition (now pool) ⌝ }
+    requires { ⌜ (from ≡ start edition (tilesOf (now pool))) × (tiles ≡ tilesOf (now pool)) ⌝ }
+    requires { ⌜ length (now pool) ≤ length (now ids) ⌝ }
+    requires { ⌜ at + length (tileLines (now pool) tiles) ≤ length (now out) ⌝ }
+    ensures { λ r. ⌜ Puts (now (out .entry)) at (tileLines (now (pool .entry)) tiles) (now (out .exit)) r ⌝ }
+{
+    let mut next = at;
+    let mut t = 0;
+    while t < tiles {
+        next = put_tile(pool, from, Tile(t), ids, out, next);
+        t += 1;
+    }
+    next
+}
+
+// The whole listing of a sound pool with that header, at the start of the buffer.
+pub fn put_listing(pool: &[u32], header: Header, ids: &mut [u32], out: &mut [u8]) -> usize
+    requires { ⌜ Sound edition (now pool) ⌝ }
+    requires { ⌜ HeaderOf edition (now pool) header ⌝ }
+    requires { ⌜ length (now pool) ≤ length (now ids) ⌝ }
+    requires { ⌜ length (listing (now pool)) ≤ length (now out) ⌝ }
+    ensures { λ r. ⌜ Puts (now (out .entry)) 0 (listing (now (pool .entry))) (now (out .exit)) r ⌝ }
+{
+    let at = put_screen(header.screen, header.blocks, pool[4], out, 0);
+    put_tiles(pool, header.start, header.tiles, ids, out, at)
+}

@@ -90,14 +90,14 @@ module _ {T N : ℕ} {p : List ℕ} {link given : ℕ} {e : List ℕ} {m : ℕ} 
             omega arith,
           )
 
-  pub giving-step : (q : List ℕ) (next : ℕ) → q ≡ giveBlock edition T p (link - 1) → next ≡ blockWord edition T p (link - 1) (edition .ids)
-      → Giving T N q next (given + 1) e m
+  pub giving-step : (q : List ℕ) (next more : ℕ) → more ≡ given + 1 → q ≡ giveBlock edition T p (link - 1) → next ≡ blockWord edition T p (link - 1) (edition .ids)
+      → Giving T N q next more e m
   unfolding giveChain
-  giving-step q next eq en = go (G .n) (G .blocks) (G .linked) (G .ends) (G .steps) (G .counted) (G .sum) (G .once) (G .below) (G .held)
+  giving-step q next more em eq en = go (G .n) (G .blocks) (G .linked) (G .ends) (G .steps) (G .counted) (G .sum) (G .once) (G .below) (G .held)
     where
       go : (n : ℕ) (bs : List ℕ) → link ≡ linkTo bs → giveChain edition T n (linkTo bs) p ≡ e → length bs ≤ n → given + length bs ≡ m
           → length (G .free) + length bs ≤ N → ((c : ℕ) → times c bs + times c (G .free) ≤ 1) → ((c : ℕ) → 0 < times c bs → c < N)
-          → Holds (edition .ids) (edition .poison) (blockWord edition T p) bs (G .list) → Giving T N q next (given + 1) e m
+          → Holds (edition .ids) (edition .poison) (blockWord edition T p) bs (G .list) → Giving T N q next more e m
       go n [] l ends steps counted sum once below r = absurd (nz l)
       go zero (b ∷ bs) l ends steps counted sum once below r = absurd (not-suc-le-zero steps)
       go (suc n) (b ∷ bs) l ends steps counted sum once below r =

@@ -18,7 +18,8 @@ abbrev μ-loop : tie.MeasureT-loop
 μ-loop pool₀ tiles named count id i₀ pool i = count - i
 
 loop-holds : tie.Need-loop-holds Inv-loop μ-loop
-loop-holds c = let s = c .before .before in
+loop-holds c =
+    let s = c .before .before in
     (search needs, refl, record { ready = s .pre .1; ends = refl })
 
 mul-t11 : tie.Need-mul-t11 Inv-loop μ-loop
@@ -28,7 +29,8 @@ shared-slice-read-t13 : tie.Need-shared-slice-read-t13 Inv-loop μ-loop
 shared-slice-read-t13 c = search needs
 
 append-requires : tie.Need-append-requires Inv-loop μ-loop
-append-requires c κs = let s = c .before .before .before .before .before .before in
+append-requires c κs =
+    let s = c .before .before .before .before .before .before in
     let a = c .before .before .before in
     let h : a .loop .i < s .args .count = omega (arith, c .before .before .loop-test .taken) in
     let G = rw (rest-next (s .args .named .now) (s .args .count) (a .loop .i) (s .pre .0) h) at (a .loop .inv .2) in
@@ -41,7 +43,8 @@ loop-less : tie.Need-loop-less Inv-loop μ-loop
 loop-less c = search needs
 
 loop-again : tie.Need-loop-again Inv-loop μ-loop
-loop-again c = let s = c .before .before .before .before .before .before .before .before .before in
+loop-again c =
+    let s = c .before .before .before .before .before .before .before .before .before in
     let a = c .before .before .before .before .before .before in
     let h : a .loop .i < s .args .count = omega (arith, c .before .before .before .before .before .loop-test .taken) in
     let G = rw (rest-next (s .args .named .now) (s .args .count) (a .loop .i) (s .pre .0) h) at (a .loop .inv .2) in
@@ -51,7 +54,8 @@ same-length : tie.Need-same-length Inv-loop μ-loop
 same-length c = search needs
 
 returns : tie.Need-returns Inv-loop μ-loop
-returns c = let s = c .before .before .before .before in
+returns c =
+    let s = c .before .before .before .before in
     let e : c .before .loop .i ≡ s .args .count = omega (arith, c .loop-test .left) in
     let G = rw (e, rest-none (s .args .named .now) (s .args .count) (s .pre .0)) at (c .before .loop .inv .2) in
     appending-end G

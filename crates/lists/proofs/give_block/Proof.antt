@@ -43,7 +43,7 @@ same-length c = search needs
 
 returns : tie.Need-returns
 unfolding giveBlock headerWord headerSet blockSet
-returns c = cc
+returns c = rw (c .before .block-index .ensures, c .before .before .before .before .poison .ensures)
 
 pub give-block-spec : {M : Type 1} → statement M
 give-block-spec =

@@ -31,12 +31,14 @@ loop-holds : tie.Need-loop-holds Inv-loop μ-loop
 loop-holds c = λ t M e h. rw (e, c .wide .ensures) (reading-start M _ h)
 
 sub-t8 : tie.Need-sub-t8 Inv-loop μ-loop
-sub-t8 c = let s = c .before .before .before .before .before in
+sub-t8 c =
+    let s = c .before .before .before .before .before in
     let G = c .before .loop .inv (s .args .tile .0) (s .pre .0) (c .before .before .before .tile-word .ensures) (s .pre .1) in
     omega (arith, reading-block G)
 
 block-word-requires : tie.Need-block-word-requires Inv-loop μ-loop
-block-word-requires c κs = let s = c .before .before .before .before .before in
+block-word-requires c κs =
+    let s = c .before .before .before .before .before in
     let G = c .before .loop .inv (s .args .tile .0) (s .pre .0) (c .before .before .before .tile-word .ensures) (s .pre .1) in
     reading-block G .1
 
@@ -44,20 +46,23 @@ loop-less : tie.Need-loop-less Inv-loop μ-loop
 loop-less c = search needs
 
 loop-again : tie.Need-loop-again Inv-loop μ-loop
-loop-again c = λ t M e h. reading-step (c .before .before .loop .inv t M e h) _ (c .block-word .ensures) (c .before .loop-test .taken)
+loop-again c = λ t M e h. reading-step (c .before .before .loop .inv t M e h) _ (c .block-word .ensures) (omega (arith, c .before .loop-test .taken))
 
 sub-t10 : tie.Need-sub-t10 Inv-loop μ-loop
-sub-t10 c = let s = c .before .before .before .before .before in
+sub-t10 c =
+    let s = c .before .before .before .before .before in
     let G = c .before .loop .inv (s .args .tile .0) (s .pre .0) (c .before .before .before .tile-word .ensures) (s .pre .1) in
     omega (arith, reading-block G)
 
 block-word-requires-2 : tie.Need-block-word-requires-2 Inv-loop μ-loop
-block-word-requires-2 c κs = let s = c .before .before .before .before .before in
+block-word-requires-2 c κs =
+    let s = c .before .before .before .before .before in
     let G = c .before .loop .inv (s .args .tile .0) (s .pre .0) (c .before .before .before .tile-word .ensures) (s .pre .1) in
     omega (arith, reading-block G, c .loop-test .left)
 
 returns : tie.Need-returns Inv-loop μ-loop
-returns c = let s = c .before .before .before .before .before .before in
+returns c =
+    let s = c .before .before .before .before .before .before in
     let G = c .before .before .loop .inv (s .args .tile .0) (s .pre .0) (c .before .before .before .before .tile-word .ensures) (s .pre .1) in
     c .block-word2 .ensures ∙ reading-end G (omega (arith, c .before .loop-test .left))
 

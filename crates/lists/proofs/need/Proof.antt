@@ -1,7 +1,7 @@
 -- `need`: the blocks counted, and those that the tiles which are left need, are all.
-use mathlib.Core.Path.{_≡_, ap, sym, _∙_}
+use mathlib.Core.Path.{_≡_, _∙_}
 use mathlib.Core.Logic.{⊎-elim}
-use Prim.Native.Nat.{ℕ, _+_, _%_, _≤_, _<_, _-_}
+use Prim.Native.Nat.{_+_, _≤_, _<_, _-_}
 use native.Mathlib.Omega.{arith}
 use borrow.Author.Needs.{needs}
 use lib.ListN.{getD, take, drop}
@@ -31,7 +31,8 @@ shared-slice-read-t11 : tie.Need-shared-slice-read-t11 Inv-loop μ-loop
 shared-slice-read-t11 c = search needs
 
 tile-word-requires : tie.Need-tile-word-requires Inv-loop μ-loop
-tile-word-requires c κs = let s = c .before .before .before .before .before in
+tile-word-requires c κs =
+    let s = c .before .before .before .before .before in
     let a = c .before .before in
     let h : a .loop .i < s .args .count = omega (arith, c .before .loop-test .taken) in
     let next = rest-next (s .args .named .now) (s .args .count) (a .loop .i) (s .pre .0) h in
@@ -51,7 +52,8 @@ loop-less : tie.Need-loop-less Inv-loop μ-loop
 loop-less c = search needs
 
 loop-again : tie.Need-loop-again Inv-loop μ-loop
-loop-again c = let s = c .before .before .before .before .before .before .before .before in
+loop-again c =
+    let s = c .before .before .before .before .before .before .before .before in
     let a = c .before .before .before .before .before in
     let h : a .loop .i < s .args .count = omega (arith, c .before .before .before .before .loop-test .taken) in
     let next = rest-next (s .args .named .now) (s .args .count) (a .loop .i) (s .pre .0) h in
@@ -62,13 +64,14 @@ loop-again c = let s = c .before .before .before .before .before .before .before
     let rest = drop (a .loop .i + 1) (take (s .args .count) (s .args .named .now)) in
     let e = c .before .wide .ensures ∙ c .before .before .tile-word .ensures in
     ⊎-elim
-    (λ w. let m = need-more edition p t rest (ap (λ (k : ℕ). k % edition .ids) (sym e) ∙ w .0 .taken) in (omega arith, omega (arith, w .1), among-rest M, omega (arith, w .1)))
-    (λ w. let m = need-same edition p t rest (λ z. w .0 .left (ap (λ (k : ℕ). k % edition .ids) e ∙ z)) in (omega arith, omega (arith, w .1), among-rest M, omega (arith, w .1)))
+    (λ w. let m = need-more edition p t rest (omega (arith, w .0 .taken)) in (omega arith, omega (arith, w .1), among-rest M, omega (arith, w .1)))
+    (λ w. let m = need-same edition p t rest (λ z. w .0 .left (omega arith)) in (omega arith, omega (arith, w .1), among-rest M, omega (arith, w .1)))
     (c .if1 .came)
 
 returns : tie.Need-returns Inv-loop μ-loop
 unfolding need
-returns c = let s = c .before .before .before .before in
+returns c =
+    let s = c .before .before .before .before in
     let e : c .before .loop .i ≡ s .args .count = omega (arith, c .loop-test .left) in
     let n = rw (e, rest-none (s .args .named .now) (s .args .count) (s .pre .0)) at (c .before .loop .inv .3) in
     omega arith

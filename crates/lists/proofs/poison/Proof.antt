@@ -37,7 +37,7 @@ loop-less c = search needs
 
 loop-again : tie.Need-loop-again Inv-loop μ-loop
 unfolding fill blockSet
-loop-again c = (search needs, simp length-set (c .before .before .loop .inv .1), rw add-one (cc))
+loop-again c = (search needs, simp length-set (c .before .before .loop .inv .1), rw (add-one, c .block-index .ensures, c .before .before .loop .inv .2))
 
 same-length : tie.Need-same-length Inv-loop μ-loop
 same-length c = search needs

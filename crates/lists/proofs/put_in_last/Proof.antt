@@ -45,7 +45,8 @@ same-length c = search needs
 
 returns : tie.Need-returns
 unfolding appendIn tileSet blockSet
-returns c = cc
+returns c =
+    rw (c .tile-index .ensures, c .before .block-index .ensures, c .before .before .wide .ensures, c .before .before .before .tile-word2 .ensures, c .before .before .before .before .before .tile-word .ensures)
 
 pub put-in-last-spec : {M : Type 1} → statement M
 put-in-last-spec =

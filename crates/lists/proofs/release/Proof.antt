@@ -57,7 +57,7 @@ loop-less c =
 
 loop-again : tie.Need-loop-again Inv-loop μ-loop
 loop-again c =
-    (search needs, giving-step (c .before .before .before .before .before .before .before .loop .inv .1) (c .before .before .before .before .before .before .loop-test .taken) _ _ (c .before .before .give-block .ensures) (c .before .before .before .before .block-word .ensures))
+    (search needs, giving-step (c .before .before .before .before .before .before .before .loop .inv .1) (c .before .before .before .before .before .before .loop-test .taken) _ _ _ (omega arith) (c .before .before .give-block .ensures) (c .before .before .before .before .block-word .ensures))
 
 tile-index-requires : tie.Need-tile-index-requires Inv-loop μ-loop
 tile-index-requires c κs = omega (arith, tile-in (c .before .before .before .before .before .pre) {i = 0} (omega arith))

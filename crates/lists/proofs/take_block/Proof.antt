@@ -51,7 +51,8 @@ same-length c = search needs
 
 returns : tie.Need-returns
 unfolding takeBlock tileSet blockSet
-returns c = cc
+returns c =
+    rw (c .tile-index2 .ensures, c .before .tile-index .ensures, c .before .before .before .block-index .ensures, c .before .before .before .before .before .before .take-head .ensures, c .before .before .before .before .before .before .before .before .tile-word .ensures)
 
 pub take-block-spec : {M : Type 1} → statement M
 take-block-spec =

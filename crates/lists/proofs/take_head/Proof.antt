@@ -40,7 +40,7 @@ same-length c = search needs
 
 returns : tie.Need-returns
 unfolding takeHead blockSet headerSet headerWord blockWord
-returns c = cc
+returns c = rw (c .before .before .block-index .ensures)
 
 pub take-head-spec : {M : Type 1} → statement M
 take-head-spec =

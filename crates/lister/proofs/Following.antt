@@ -12,7 +12,7 @@ use Rattle.pool.specs.Words.{edition, start, room, tileWord, blockWord}
 use Rattle.pool.specs.State.{tileOf, linkTo, times, Holds}
 use Rattle.pool.specs.Sound.{Sound, tilesOf, blocksOf}
 use Rattle.pool.specs.Lists.{listOf}
-use Rattle.pool.specs.Opening.{written}
+use Rattle.pool.specs.Written.{written}
 use Rattle.pool.proofs.Words.{edition-fair}
 use Rattle.pool.proofs.Times.{times-head, times-tail}
 use Rattle.pool.proofs.State.{tile-block<}

@@ -7,7 +7,7 @@ use native.Mathlib.Omega.{arith}
 use lib.ListN.{length, getD, set, take, drop, length-append, length-set, drop-of-length-le}
 use lib.Seq.{drop-cons, length-take-le, take-at}
 use Rattle.io.specs.Counts.{Counts}
-use Rattle.pool.specs.Opening.{written}
+use Rattle.pool.specs.Written.{written}
 use Rattle.pool.proofs.Written.{length-written, written-none, written-next, written-append, written-is}
 use Rattle.lister.specs.Text.{Puts}
 

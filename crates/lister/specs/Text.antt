@@ -5,7 +5,7 @@ use mathlib.Core.List.{List, [], _∷_, _++_}
 use Prim.Native.Nat.{ℕ, zero, suc, _+_, _/_, _%_}
 use lib.ListN.{length}
 use lib.Dec.{ltb}
-use Rattle.pool.specs.Opening.{written}
+use Rattle.pool.specs.Written.{written}
 
 -- the decimal digits of n, of which there are at most `most` + 1: those of n / 10, and the last
 abbrev pub numeralTo : (most n : ℕ) → List ℕ

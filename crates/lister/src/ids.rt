@@ -6,7 +6,7 @@ ghost use Rattle.io.specs.Counts.{Counts};
 ghost use Rattle.pool.specs.Words.{edition, start};
 ghost use Rattle.pool.specs.Sound.{Sound, tilesOf};
 ghost use Rattle.pool.specs.Lists.{listOf};
-ghost use Rattle.pool.specs.Opening.{written};
+ghost use Rattle.pool.specs.Written.{written};
 use numbers::wide;
 use pool::BLOCK_IDS;
 use pool::BLOCK_WORDS;

@@ -116,24 +116,6 @@ unlt (negsuc n) (negsuc m) a b c d p q t = omega (arith, ltb→lt m n t)
 pub lt-diff : {x y : ℤ} {a b c d : ℕ} → Diff x a b → Diff y c d → x <ℤ y → a + d < c + b
 lt-diff {x} {y} {a} {b} {c} {d} p q h = unlt x y a b c d (p .is) (q .is) (h .lt)
 
--- ---- every integer above −K has a natural number: itself plus K
-
-abbrev pub biased : ℕ → ℤ → ℕ
-biased K (pos n) = n + K
-biased K (negsuc n) = K - suc n
-
-unbias : (K : ℕ) (z : ℤ) → T (leZ (negℤ (pos K)) z) → DiffT z (biased K z) K
-unbias K (pos n) t = refl
-unbias zero (negsuc n) t = absurd t
-unbias (suc k) (negsuc n) t = omega (arith, leb→le n k t)
-
-pub diff-bias : (K : ℕ) {z : ℤ} → negℤ (pos K) ≤ℤ z → Diff z (biased K z) K
-diff-bias K {z} h = record { is = unbias K z (h .le) }
-
-pub diff-abs : (z : ℤ) {a b M : ℕ} → Diff z a b → a ≤ M → b ≤ M → natAbs z ≤ M
-diff-abs (pos n) {a} {b} {M} p h k = let e = p .is in omega arith
-diff-abs (negsuc n) {a} {b} {M} p h k = let e = p .is in omega arith
-
 -- ---- the positive part: an integer, and 0 where it is negative. An order against a natural is one of naturals
 
 pub up-le : (z : ℤ) {n : ℕ} → z ≤ℤ pos n → up z ≤ n

@@ -10,9 +10,9 @@ use lib.Signed.{mag, ltZ, leZ, _≤ℤ_, _<ℤ_, nonNeg, ltZ-no, yes-nonNeg}
 use mir.Syntax.{Width}
 use mir.Val.{Fits, SFits, toZ, ofZ, bits, hbits}
 use mir.Facts.{toZ-ofZ}
-use Rattle.numbers.specs.Diff.{Diff, up}
+use Rattle.numbers.specs.Diff.{up}
 use Rattle.numbers.specs.Is.{Is, kept}
-use Rattle.numbers.proofs.Diff.{diff-abs, up-abs, abs-up}
+use Rattle.numbers.proofs.Diff.{up-abs, abs-up}
 
 -- ---- sizes
 
@@ -61,10 +61,6 @@ is-lit n = record { same = refl; size = omega arith }
 -- a natural below a bound, as an unsigned number is cast to a signed type
 pub is-pos : {n M : ℕ} → n ≤ M → Is (pos n) (pos n) M
 is-pos h = record { same = refl; size = h }
-
--- by any pair of naturals whose difference it is
-pub is-diff : {z : ℤ} {a b M : ℕ} → Diff z a b → a ≤ M → b ≤ M → Is z z M
-is-diff {z} d h k = record { same = refl; size = diff-abs z d h k }
 
 pub is-add : {v z u y : ℤ} {M N : ℕ} → Is v z M → Is u y N → Is (v +ℤ u) (z +ℤ y) (M + N)
 is-add {v} {z} {u} {y} p q =
@@ -132,10 +128,6 @@ module _ {v z u y : ℤ} {M N : ℕ} (p : Is v z M) (q : Is u y N) where
 
   pub le-left : leZ v u ≡ false → y <ℤ z
   le-left e = record { lt = nle z y (fails ((λ i. leZ (sym (p .same) i) (sym (q .same) i)) ∙ e)) }
-
--- equality is tested on the bits
-pub bits-eq : (w : Width) {x y : ℤ} → SFits w x → SFits w y → ofZ w x ≡ ofZ w y → x ≡ y
-bits-eq w f g e = sym (toZ-ofZ {w = w} f) ∙ ap (toZ w) e ∙ toZ-ofZ {w = w} g
 
 -- ---- a cast to an unsigned type, of a number that is not negative
 

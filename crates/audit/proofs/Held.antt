@@ -13,6 +13,7 @@ use Rattle.pool.specs.State.{linkTo, times, Holds}
 use Rattle.pool.specs.Lists.{table}
 use Rattle.pool.proofs.Times.{one-other, times-head, times-tail}
 use Rattle.pool.proofs.Lists.{length-table, getD-table}
+use Rattle.pool.proofs.Chain.{getD-within}
 use Rattle.audit.specs.Chain.{Chain, Filled, Places, next}
 
 drop-take : (m q : ℕ) (l : List ℕ) → drop m (take q l) ≡ take (q - m) (drop m l)
@@ -20,12 +21,6 @@ drop-take zero q l = let e : q - 0 ≡ q = omega arith in rw e refl
 drop-take (suc m) zero l = let e : 0 - suc m ≡ 0 = omega arith in rw e refl
 drop-take (suc m) (suc q) [] = sym (take-nil (suc q - suc m))
 drop-take (suc m) (suc q) (x ∷ l) = let e : suc q - suc m ≡ q - m = omega arith in rw e (drop-take m q l)
-
--- within a list the default does not matter
-getD-within : (l : List ℕ) (i d e : ℕ) → i < length l → getD l i d ≡ getD l i e
-getD-within [] i d e h = absurd (not-suc-le-zero h)
-getD-within (x ∷ l) zero d e h = refl
-getD-within (x ∷ l) (suc i) d e h = getD-within l i d e (le-of-suc-le-suc h)
 
 -- the link to a chain names its first block
 pub chain-link : (next : ℕ → ℕ) (n link : ℕ) (bs : List ℕ) → Chain next n link bs → link ≡ linkTo bs

@@ -9,6 +9,7 @@ use pool::MOST_BLOCKS;
 use pool::POISON;
 use pool::TILE_WORDS;
 use pool::room_of;
+use pool::share;
 use pool::start_of;
 use screen::Block;
 use screen::Screen;
@@ -16,7 +17,7 @@ use screen::Tile;
 use screen::allowed;
 use screen::tiles_of;
 ghost use mathlib.Core.Path.{_≡_};
-ghost use Prim.Native.Nat.{ℕ, _+_, _*_, _<_, _≤_, min};
+ghost use Prim.Native.Nat.{ℕ, _+_, _*_, _<_, _≤_};
 ghost use lib.ListN.{length, getD};
 ghost use Rattle.numbers.specs.Says.{Says};
 ghost use Rattle.screen.specs.Screen.{Allowed};
@@ -80,13 +81,6 @@ fn link_of(pool: &[u32], from: usize, block: Block) -> u32
 {
     let at = from + BLOCK_WORDS * wide(block.0);
     pool[at + BLOCK_IDS]
-}
-
-// How many of q entries a block holds.
-fn share(q: usize) -> usize
-    ensures { λ r. ⌜ r ≡ min (edition .ids) q ⌝ }
-{
-    if q < BLOCK_IDS { q } else { BLOCK_IDS }
 }
 
 // Walks `left` blocks from `link` on, which hold q entries, and marks each. It stops at a block that is marked already.

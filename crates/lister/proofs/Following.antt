@@ -18,6 +18,7 @@ use Rattle.pool.proofs.Times.{times-head, times-tail}
 use Rattle.pool.proofs.State.{tile-block<}
 use Rattle.pool.proofs.Lists.{listOf-tile, blocks-enough}
 use Rattle.pool.proofs.Written.{written-none, written-append}
+use Rattle.pool.proofs.Chain.{getD-within}
 
 -- ---- a part of a list
 
@@ -26,12 +27,6 @@ length-part from count p h = length-take-le count (drop from p) (omega (arith, l
 
 pub getD-part : (from count : ℕ) (p : List ℕ) (j : ℕ) → j < count → getD (take count (drop from p)) j 0 ≡ getD p (from + j) 0
 getD-part from count p j h = getD-take count (drop from p) j 0 h ∙ getD-drop from p j 0
-
--- what is asked for past the end does not matter before it
-getD-within : (l : List ℕ) (j d e : ℕ) → j < length l → getD l j d ≡ getD l j e
-getD-within [] j d e h = absurd (not-suc-le-zero h)
-getD-within (x ∷ l) zero d e h = refl
-getD-within (x ∷ l) (suc j) d e h = getD-within l j d e (le-of-suc-le-suc h)
 
 -- a list ends with its last block of ids, full or not
 drop-share : (ids done k : ℕ) (list : List ℕ) → k ≡ min ids (length list - done) → drop (done + ids) list ≡ drop (done + k) list

@@ -1,6 +1,6 @@
 // The ids of a tile, copied from its chain, which is followed once.
 ghost use mathlib.Core.Path.{_≡_};
-ghost use Prim.Native.Nat.{_+_, _<_, _≤_, min};
+ghost use Prim.Native.Nat.{_+_, _<_, _≤_};
 ghost use lib.ListN.{length, take, drop};
 ghost use Rattle.io.specs.Counts.{Counts};
 ghost use Rattle.pool.specs.Words.{edition, start};
@@ -12,6 +12,7 @@ use pool::BLOCK_IDS;
 use pool::BLOCK_WORDS;
 use pool::HEADER_WORDS;
 use pool::TILE_WORDS;
+use pool::share;
 use screen::Tile;
 
 // `count` words of the pool, copied to a place of `ids`.
@@ -24,13 +25,6 @@ fn copy(pool: &[u32], from: usize, count: usize, ids: &mut [u32], at: usize)
         ids[at + k] = pool[from + k];
         k += 1;
     }
-}
-
-// How many of q entries a block holds.
-fn share(q: usize) -> usize
-    ensures { λ r. ⌜ r ≡ min (edition .ids) q ⌝ }
-{
-    if q < BLOCK_IDS { q } else { BLOCK_IDS }
 }
 
 // Puts the list of a tile of a sound pool, whose blocks start at `from`, at the start of `ids`, and answers how many ids there are.

@@ -15,14 +15,9 @@ use Rattle.pool.proofs.Words.{edition-fair}
 use Rattle.pool.proofs.Times.{times-head, times-tail}
 use Rattle.pool.proofs.Lists.{blocks-enough, listOf-shows}
 use Rattle.pool.proofs.State.{tile-block<}
+use Rattle.pool.proofs.Chain.{getD-within}
 use Rattle.lists.specs.Reach.{BlockIn, Among}
 use Rattle.lists.proofs.Reaches.{block-in, shown, roomed}
-
--- within a list it does not matter what stands after its end
-getD-within : (l : List ℕ) (i d e : ℕ) → i < length l → getD l i d ≡ getD l i e
-getD-within [] i d e h = absurd (not-suc-le-zero h)
-getD-within (x ∷ l) zero d e h = refl
-getD-within (x ∷ l) (suc i) d e h = getD-within l i d e (le-of-suc-le-suc h)
 
 -- The link leads to the chain `blocks`, which holds `list`, and at place `left` of that stands v.
 pub record Reading (T N : ℕ) (p : List ℕ) (link left v : ℕ) : Type 0 where

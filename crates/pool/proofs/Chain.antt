@@ -3,7 +3,7 @@ use mathlib.Core.Path.{_≡_, refl, sym, ap, ap₂, _∙_, subst}
 use mathlib.Core.Logic.{_≢_, _⊎_, inl, inr, ⊎-elim}
 use mathlib.Core.List.{List, [], _∷_, _++_}
 use Prim.Native.Nat.{ℕ, zero, suc, _+_, _*_, _≤_, _<_}
-use native.Mathlib.Nat.{not-suc-le-zero}
+use native.Mathlib.Nat.{not-suc-le-zero, le-of-suc-le-suc}
 use native.Mathlib.Omega.{arith}
 use lib.ListN.{length, getD, drop, length-drop}
 use lib.Seq.{drop-append-le, drop-at, drop-nil, getD-append-seam}
@@ -17,6 +17,12 @@ abbrev pub Same : (ids : ℕ) (g h : ℕ → ℕ → ℕ) (b : ℕ) → Type 0
 Same ids g h b = (k : ℕ) → k ≤ ids → h b k ≡ g b k
 
 -- ---- one more at the end of a list
+
+-- what stands within a list does not go by the default
+pub getD-within : (l : List ℕ) (i d e : ℕ) → i < length l → getD l i d ≡ getD l i e
+getD-within [] i d e h = absurd (not-suc-le-zero h)
+getD-within (x ∷ l) zero d e h = refl
+getD-within (x ∷ l) (suc i) d e h = getD-within l i d e (le-of-suc-le-suc h)
 
 pub getD-snoc-same : (list : List ℕ) (a d : ℕ) → getD (list ++ (a ∷ [])) (length list) d ≡ a
 getD-snoc-same list a d = getD-append-seam list a [] d

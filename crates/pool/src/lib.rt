@@ -1,6 +1,6 @@
 // The pool: a lent slice of words with a header, a table of tiles and blocks, and its opening. `specs/` says what a pool says and when it is sound.
 ghost use mathlib.Core.Path.{_≡_};
-ghost use Prim.Native.Nat.{suc, _+_, _*_, _<_, _≤_};
+ghost use Prim.Native.Nat.{suc, _+_, _*_, _<_, _≤_, min};
 ghost use lib.ListN.{length, replicate};
 ghost use Rattle.screen.specs.Screen.{Allowed, tiles};
 ghost use Rattle.pool.specs.Words.{edition, start, room};
@@ -54,6 +54,13 @@ pub fn room_of(tiles: usize, blocks: usize) -> usize
     ensures { λ r. ⌜ r ≡ room edition tiles blocks ⌝ }
 {
     HEADER_WORDS + TILE_WORDS * tiles + BLOCK_WORDS * blocks
+}
+
+// How many of q entries a block holds.
+pub fn share(q: usize) -> usize
+    ensures { λ r. ⌜ r ≡ min (edition .ids) q ⌝ }
+{
+    if q < BLOCK_IDS { q } else { BLOCK_IDS }
 }
 
 // The same word in `count` places.

@@ -3,23 +3,16 @@ use Prim.Native.Nat.{ℕ, zero, suc, _+_, _-_, _≤_, _<_}
 use mathlib.Core.Path.{_≡_, refl, sym, subst, _∙_}
 use mathlib.Core.List.{List}
 use mathlib.Core.Logic.{_⊎_, inl, inr, ⊎-elim}
-use native.Mathlib.Decide.{decLe}
 use native.Mathlib.Omega.{arith}
 use lib.ListN.{length, getD, set, length-set}
 use lib.Seq.{getD-set-same, getD-set-other}
+use Rattle.numbers.proofs.Ceil.{lt-or-ge}
 use Rattle.walk.specs.Lists.{Below, Place, Lists}
 use Rattle.walk.specs.Row.{Run}
 
-pub under-or : (i n : ℕ) → (i < n) ⊎ (n ≤ i)
-under-or i n = go (decLe n i)
-  where
-    go : Dec (n ≤ i) → (i < n) ⊎ (n ≤ i)
-    go (yes p) = inr p
-    go (no p) = inl (omega arith)
-
 -- what holds from a number on and before n, and at n, holds before n + 1
 pub up-to : {P : ℕ → Type 0} {from n : ℕ} → ((k : ℕ) → from ≤ k → k < n → P k) → P n → (k : ℕ) → from ≤ k → k < n + 1 → P k
-up-to {P} {from} {n} f p k l h = go (under-or k n)
+up-to {P} {from} {n} f p k l h = go (lt-or-ge k n)
   where
     go : (k < n) ⊎ (n ≤ k) → P k
     go = ⊎-elim (λ (u : k < n). f k l u) (λ (u : n ≤ k). subst P (omega arith) p)
@@ -58,9 +51,9 @@ module _ (P : ℕ → Type 0) where
       record {
         size = r .size ∙ l .size;
         rest = λ i h. r .over i h ∙ l .rest i (omega arith);
-        rising = λ i j h k. rising i j h k (under-or i count) (under-or j count);
-        sound = λ i h. sound i h (under-or i count);
-        whole = λ t q. whole t q (under-or t (base + from));
+        rising = λ i j h k. rising i j h k (lt-or-ge i count) (lt-or-ge j count);
+        sound = λ i h. sound i h (lt-or-ge i count);
+        whole = λ t q. whole t q (lt-or-ge t (base + from));
       }
     where
       place : (i : ℕ) → count ≤ i → i < n → getD new i 0 ≡ base + (from + (i - count))
@@ -114,7 +107,7 @@ module _ (P : ℕ → Type 0) where
         rest = l .rest;
         rising = l .rising;
         sound = λ i k. let s = l .sound i k in (let b = s .0 in omega arith, s .1);
-        whole = λ t q. whole t q (under-or t m);
+        whole = λ t q. whole t q (lt-or-ge t m);
       }
     where
       whole : (t : ℕ) → Below m′ P t → (t < m) ⊎ (m ≤ t) → Place new n t
@@ -145,7 +138,7 @@ module _ (Q : ℕ → Type 0) (base : ℕ) where
         from≤ = omega arith;
         as-many = omega arith;
         all = up-to (r .all) q;
-        written = λ i l g. written i l g (under-or i n);
+        written = λ i l g. written i l g (lt-or-ge i n);
         under = λ i l. getD-set-other new n i (base + stop) 0 (λ d. omega arith) ∙ r .under i l;
         over = λ i l. getD-set-other new n i (base + stop) 0 (λ d. omega arith) ∙ r .over i (omega arith);
       }
@@ -175,7 +168,7 @@ module _ {P : ℕ → Type 0} where
       let a = far-enough l n (omega arith) in let b = h (getD new n 0) (l .sound n (omega arith)) in omega arith
 
   level : {n : ℕ} {old new : List ℕ} → Lists P n old new → (i j : ℕ) → i ≤ j → j < n → getD new i 0 ≤ getD new j 0
-  level {n} {old} {new} l i j h k = go (under-or i j)
+  level {n} {old} {new} l i j h k = go (lt-or-ge i j)
     where
       go : (i < j) ⊎ (j ≤ i) → getD new i 0 ≤ getD new j 0
       go =
@@ -189,7 +182,7 @@ module _ {P : ℕ → Type 0} {n n′ : ℕ} {old new old′ new′ : List ℕ} 
     most : getD new′ i 0 ≤ getD new i 0
 
   not-ahead : (i : ℕ) → i < n → ((k : ℕ) → k < i → NotAhead k) → NotAhead i
-  not-ahead i h before = let w = l′ .whole (getD new i 0) (l .sound i h) in go (w .index) (w .before) (w .there) (under-or (w .index) i)
+  not-ahead i h before = let w = l′ .whole (getD new i 0) (l .sound i h) in go (w .index) (w .before) (w .there) (lt-or-ge (w .index) i)
     where
       go : (j : ℕ) → j < n′ → getD new′ j 0 ≡ getD new i 0 → (j < i) ⊎ (i ≤ j) → NotAhead i
       go j b e =
@@ -204,7 +197,7 @@ module _ {P : ℕ → Type 0} {n n′ : ℕ} {old new old′ new′ : List ℕ} 
 -- two lists of the same numbers are one list
 module _ {P : ℕ → Type 0} {n n′ : ℕ} {old new old′ new′ : List ℕ} (l : Lists P n old new) (l′ : Lists P n′ old′ new′) where
   pub lists-as-long : n ≡ n′
-  lists-as-long = go (under-or n n′) (under-or n′ n)
+  lists-as-long = go (lt-or-ge n n′) (lt-or-ge n′ n)
     where
       go : (n < n′) ⊎ (n′ ≤ n) → (n′ < n) ⊎ (n ≤ n′) → n ≡ n′
       go =

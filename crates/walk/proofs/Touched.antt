@@ -14,13 +14,14 @@ use Rattle.shape.specs.declared.Shape.{Shape}
 use Rattle.touch.specs.Touches.{Touches}
 use Rattle.walk.specs.Touched.{TouchedTiles, Walked}
 use Rattle.walk.specs.Lists.{IsTouched, Place, Lists}
-use Rattle.walk.proofs.Lists.{under-or, lists-few, lists-as-long, lists-same}
+use Rattle.numbers.proofs.Ceil.{lt-or-ge}
+use Rattle.walk.proofs.Lists.{lists-few, lists-as-long, lists-same}
 
 -- ---- a list as the front of itself
 
 rising : (ts : List ℕ) → ((i : ℕ) → suc i < length ts → getD ts i 0 < getD ts (suc i) 0) → (i j : ℕ) → i < j → j < length ts → getD ts i 0 < getD ts j 0
 rising ts r i zero h k = absurd (omega arith)
-rising ts r i (suc j) h k = last-or-before (λ l. rising ts r i j l (omega arith)) (under-or i j)
+rising ts r i (suc j) h k = last-or-before (λ l. rising ts r i j l (omega arith)) (lt-or-ge i j)
   where
     last-or-before : (i < j → getD ts i 0 < getD ts j 0) → (i < j) ⊎ (j ≤ i) → getD ts i 0 < getD ts (suc j) 0
     last-or-before f =
@@ -58,7 +59,7 @@ module _ (ts : List ℕ) (t n : ℕ) where
   one-more f other =
       ⊎-elim
       (λ (w : Place ts n t). inl (let b = w .before in record { index = w .index; before = omega arith; there = w .there }))
-      (λ (g : Place ts n t → ⊥). inr (λ w. g (earlier other (w .index) (w .before) (w .there) (under-or (w .index) n))))
+      (λ (g : Place ts n t → ⊥). inr (λ w. g (earlier other (w .index) (w .before) (w .there) (lt-or-ge (w .index) n))))
       f
 
   at-last : Place ts n t ⊎ (Place ts n t → ⊥) → Dec (getD ts n 0 ≤ t) → Dec (t ≤ getD ts n 0) → Place ts (suc n) t ⊎ (Place ts (suc n) t → ⊥)

@@ -2,7 +2,7 @@
 use mathlib.Core.Path.{_≡_, refl, sym, ap, ap₂, _∙_, subst}
 use mathlib.Core.Logic.{_≢_}
 use mathlib.Core.List.{List, [], _∷_}
-use Prim.Native.Nat.{ℕ, suc, _+_, _%_, _≤_, _<_}
+use Prim.Native.Nat.{ℕ, _+_, _%_, _≤_, _<_}
 use native.Mathlib.Numerals.{add-one}
 use native.Mathlib.Omega.{arith}
 use borrow.Author.Tests.{eq-eqb, ne-eqb}
@@ -12,11 +12,11 @@ use Rattle.pool.specs.Words.{Layout, edition, headerWord, tileWord}
 use Rattle.pool.specs.State.{one, times}
 use Rattle.pool.specs.Sound.{Sound, tilesOf}
 use Rattle.pool.proofs.Words.{edition-fair}
-use Rattle.pool.proofs.Times.{one-same, times-head, times-tail, times-differ}
+use Rattle.pool.proofs.Times.{times-head, times-tail}
 use Rattle.pool.proofs.Header.{keeps-tiles}
 use Rattle.lists.specs.Appending.{multiple, need, append, appendAll, Distinct}
 use Rattle.lists.specs.Reach.{Among, AllAmong, Appendable}
-use Rattle.lists.proofs.Counts.{distinct-rest, distinct-first}
+use Rattle.lists.proofs.Counts.{distinct-rest}
 use Rattle.lists.proofs.Several.{kept-keeps, append-all-appends}
 
 -- the tiles that are left after i of n, and the next of them

@@ -1,31 +1,27 @@
 -- An append to one tile keeps what a pool says, with one id more at the end of that tile's list, and nothing else changes.
-use mathlib.Core.Path.{_≡_, refl, sym, ap, _∙_, subst}
+use mathlib.Core.Path.{_≡_, sym, ap, _∙_, subst}
 use mathlib.Core.Logic.{_≢_, ⊎-elim}
 use mathlib.Core.List.{List, [], _∷_, _++_}
-use Prim.Native.Nat.{ℕ, zero, suc, _+_, _*_, _-_, _%_, _≤_, _<_}
-use native.Mathlib.Nat.{mod-lt, zero-mod}
+use Prim.Native.Nat.{ℕ, suc, _*_, _-_, _%_, _≤_, _<_}
+use native.Mathlib.Nat.{zero-mod}
 use native.Mathlib.Omega.{arith}
 use borrow.Author.Tests.{eq-eqb, ne-eqb}
 use lib.Dec.{eqb}
 use lib.ListN.{length, set}
-use lib.Seq.{getD-set-other}
-use Rattle.numbers.specs.Ceil.{ceil}
 use Rattle.numbers.proofs.Ceil.{eq-or-ne}
 use Rattle.pool.specs.Words.{Layout, Fair, start, room, headerWord, tileWord, blockWord, tileSet, blockSet}
 use Rattle.pool.specs.State.{State, tileOf, linkTo, lastLink, one, times}
 use Rattle.pool.specs.Sound.{Shows}
 use Rattle.pool.proofs.Words.{start≤room, tile-set, tile-blockSet, block-tileSet, block-set, block-set-other-block, block-set-other-word}
-use Rattle.pool.proofs.Times.{one-same, one-other, times-append, times-differ}
+use Rattle.pool.proofs.Times.{one-same, times-append, times-differ}
 use Rattle.pool.proofs.Parts.{ceil-none, ceil-some, ceil-full}
 use Rattle.pool.proofs.Chain.{Same, nil-of, uncons, unsnoc, lastLink-snoc}
-use Rattle.pool.proofs.Header.{Keeps}
 use Rattle.pool.proofs.State.{times≤, tile-block<, free-block<, apart, apart-free, free-apart}
 use Rattle.lists.specs.Appending.{pick, multiple, append, appendIn, takeBlock, appendFirst, appendNext}
 use Rattle.lists.specs.Steps.{appendState, inLast, inNew, withBlock}
-use Rattle.lists.specs.Promises.{Kept}
 use Rattle.lists.proofs.Within.{Within, within-then, within-tile, within-block}
-use Rattle.lists.proofs.PutIn.{PutIn, put-in-words, put-in-within, put-in-shows}
-use Rattle.lists.proofs.Taking.{Taken, take-words, take-within, take-first, take-same, first-words, next-words, first-shows, next-shows}
+use Rattle.lists.proofs.PutIn.{put-in-words, put-in-within, put-in-shows}
+use Rattle.lists.proofs.Taking.{take-within, take-first, take-same, first-words, next-words, first-shows, next-shows}
 
 -- What one append does: what the words q show then, and where they are the words p.
 pub record Step (L : Layout) (T N : ℕ) (p q : List ℕ) (s r : State) (t : ℕ) : Type 0 where

@@ -3,18 +3,18 @@ use mathlib.Core.Path.{_≡_, refl, sym, ap, ap₂, _∙_}
 use mathlib.Core.Logic.{_≢_, ⊎-elim}
 use mathlib.Core.Bool.{Bool, true, false}
 use mathlib.Core.List.{List, [], _∷_, _++_}
-use Prim.Native.Nat.{ℕ, zero, suc, _+_, _≤_, _<_, zero-le}
+use Prim.Native.Nat.{ℕ, _+_, _≤_, _<_, zero-le}
 use native.Mathlib.Nat.{not-suc-le-zero}
 use native.Mathlib.Omega.{arith}
-use lib.ListN.{length, getD, set, length-set}
+use lib.ListN.{length, length-set}
 use lib.Seq.{getD-set-same, getD-set-other}
 use Rattle.numbers.proofs.Ceil.{eq-or-ne}
-use Rattle.pool.specs.Words.{Layout, tileWord}
+use Rattle.pool.specs.Words.{Layout}
 use Rattle.pool.specs.State.{Chained, empty, State, tileOf, one, times}
 use Rattle.pool.specs.Sound.{Shows}
 use Rattle.pool.proofs.Times.{one-same, one-other, times-head, times-tail, times-differ}
 use Rattle.lists.specs.Appending.{pick, multiple, need, Distinct}
-use Rattle.lists.specs.Steps.{tail, headOr, inLast, inNew, appendState, appendAllState, needState}
+use Rattle.lists.specs.Steps.{tail, inLast, inNew, appendState, appendAllState, needState}
 
 tail-length : (l : List ℕ) → 0 < length l → length (tail l) + 1 ≡ length l
 tail-length [] h = absurd (not-suc-le-zero h)

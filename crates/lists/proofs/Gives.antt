@@ -1,15 +1,15 @@
 -- Blocks given back, one and a chain of them: each is poisoned and made the head of the free chain, and nothing else changes.
-use mathlib.Core.Path.{_≡_, refl, sym, ap, _∙_}
+use mathlib.Core.Path.{_≡_, refl, ap, _∙_}
 use mathlib.Core.Logic.{_≢_, ⊎-elim}
-use mathlib.Core.List.{List, [], _∷_, _++_}
-use Prim.Native.Nat.{ℕ, zero, suc, _+_, _*_, _≤_, _<_}
+use mathlib.Core.List.{List, [], _∷_}
+use Prim.Native.Nat.{ℕ, zero, suc, _+_, _≤_, _<_}
 use native.Mathlib.Nat.{not-suc-le-zero}
 use native.Mathlib.Omega.{arith}
 use lib.Dec.{eqb}
 use lib.ListN.{length, drop}
 use lib.Seq.{drop-nil}
 use Rattle.numbers.proofs.Ceil.{eq-or-ne}
-use Rattle.pool.specs.Words.{Layout, Fair, start, room, headerWord, tileWord, blockWord}
+use Rattle.pool.specs.Words.{Layout, Fair, room, headerWord, tileWord, blockWord}
 use Rattle.pool.specs.State.{linkTo, one, times, Holds}
 use Rattle.pool.proofs.Words.{header≤start, start≤room, header-set, header-set-other, length-headerSet, tile-headerSet, block-set, block-set-other-block, block-set-other-word, length-blockSet, header-blockSet, tile-blockSet, block-headerSet}
 use Rattle.pool.proofs.Times.{one-same, one-other, times-differ, times-head, times-tail}

@@ -6,7 +6,6 @@ use Prim.Native.Nat.{ℕ, suc, _+_, _*_, _-_, _%_, _≤_, _<_}
 use native.Mathlib.Nat.{mod-lt}
 use native.Mathlib.Omega.{arith}
 use lib.ListN.{length, length-append}
-use Rattle.numbers.specs.Ceil.{ceil}
 use Rattle.pool.specs.Words.{Layout, Fair, start, room, headerWord, tileWord, blockWord}
 use Rattle.pool.specs.State.{State, tileOf, times}
 use Rattle.pool.specs.Sound.{Shows}

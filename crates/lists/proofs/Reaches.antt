@@ -1,14 +1,13 @@
 -- What a sound pool says of the numbers that the functions compute with: the words that they name lie in the pool, and what they count fits a word.
-use mathlib.Core.Path.{_≡_, refl, sym, ap, _∙_, subst}
+use mathlib.Core.Path.{_≡_, sym, ap, _∙_, subst}
 use mathlib.Core.Logic.{_≢_}
-use mathlib.Core.List.{List, [], _∷_, _++_}
-use Prim.Native.Nat.{ℕ, suc, _+_, _*_, _-_, _%_, _^_, _≤_, _<_}
-use native.Mathlib.Nat.{mul-le-mul-left, zero-mod}
+use mathlib.Core.List.{List, [], _∷_}
+use Prim.Native.Nat.{ℕ, suc, _+_, _-_, _%_, _^_, _≤_, _<_}
 use native.Mathlib.Omega.{arith}
 use borrow.Author.Tests.{eq-eqb}
 use lib.ListN.{length}
-use Rattle.pool.specs.Words.{edition, start, room, headerWord, tileWord, blockWord}
-use Rattle.pool.specs.State.{State, tileOf, linkTo, lastLink, one, times}
+use Rattle.pool.specs.Words.{edition, start, room, headerWord, tileWord}
+use Rattle.pool.specs.State.{tileOf, linkTo, lastLink, one, times}
 use Rattle.pool.specs.Sound.{Shows, Sound, tilesOf, blocksOf}
 use Rattle.pool.specs.Lists.{listOf}
 use Rattle.pool.proofs.Words.{edition-fair, row-within, header≤start, start≤room}
@@ -18,7 +17,7 @@ use Rattle.pool.proofs.Chain.{uncons, unsnoc, lastLink-snoc}
 use Rattle.pool.proofs.Lists.{listOf-shows}
 use Rattle.pool.proofs.State.{tile-block<, free-block<}
 use Rattle.pool.proofs.Total.{entries≤}
-use Rattle.lists.specs.Appending.{multiple, need}
+use Rattle.lists.specs.Appending.{need}
 use Rattle.lists.specs.Reach.{TileIn, BlockIn, Among, Roomy, Takeable}
 
 -- the words of n blocks lie in a pool that has the room

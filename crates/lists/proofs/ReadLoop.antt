@@ -1,6 +1,5 @@
 -- What the loop that follows a chain to a place keeps: the chain that is left, the ids that it holds, and that the one at the place is the one asked for.
 use mathlib.Core.Path.{_≡_, refl, sym, ap, _∙_}
-use mathlib.Core.Logic.{_≢_}
 use mathlib.Core.List.{List, [], _∷_}
 use Prim.Native.Nat.{ℕ, zero, suc, _+_, _*_, _-_, _≤_, _<_}
 use native.Mathlib.Nat.{not-suc-le-zero, le-of-suc-le-suc}
@@ -8,7 +7,7 @@ use native.Mathlib.Omega.{arith}
 use lib.ListN.{length, getD, drop, length-drop}
 use lib.Seq.{getD-drop}
 use Rattle.pool.specs.Words.{edition, room, tileWord, blockWord}
-use Rattle.pool.specs.State.{State, tileOf, linkTo, times, Holds}
+use Rattle.pool.specs.State.{tileOf, linkTo, times, Holds}
 use Rattle.pool.specs.Sound.{blocksOf}
 use Rattle.pool.specs.Lists.{listOf}
 use Rattle.pool.proofs.Words.{edition-fair}

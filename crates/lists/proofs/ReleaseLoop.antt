@@ -1,15 +1,15 @@
 -- What the loop that gives a tile's blocks back keeps: the chain that is left, the free chain, and how many blocks have been given back.
-use mathlib.Core.Path.{_≡_, refl, sym, ap, _∙_}
+use mathlib.Core.Path.{_≡_, sym, ap, _∙_}
 use mathlib.Core.Logic.{_≢_}
 use mathlib.Core.List.{List, [], _∷_}
-use Prim.Native.Nat.{ℕ, zero, suc, _+_, _*_, _-_, _^_, _≤_, _<_}
+use Prim.Native.Nat.{ℕ, zero, suc, _+_, _*_, _-_, _≤_, _<_}
 use native.Mathlib.Nat.{not-suc-le-zero}
 use native.Mathlib.Omega.{arith}
 use lib.ListN.{length, drop, set}
 use Rattle.numbers.specs.Ceil.{ceil}
 use Rattle.pool.specs.Words.{edition, room, headerWord, tileWord, blockWord, tileSet}
-use Rattle.pool.specs.State.{State, tileOf, linkTo, times, Holds}
-use Rattle.pool.specs.Sound.{Shows, blocksOf}
+use Rattle.pool.specs.State.{tileOf, linkTo, times, Holds}
+use Rattle.pool.specs.Sound.{blocksOf}
 use Rattle.pool.proofs.Words.{edition-fair}
 use Rattle.pool.proofs.Times.{one-same, one-other, times-head, times-tail, times-differ, timesInTiles-at}
 use Rattle.pool.proofs.Chain.{frame}
@@ -17,7 +17,7 @@ use Rattle.pool.proofs.Lists.{blocks≤entries}
 use Rattle.pool.proofs.State.{times≤, tile-block<}
 use Rattle.pool.proofs.Total.{blocks-total, blocksInTiles-at}
 use Rattle.lists.specs.Releasing.{giveBlock, giveChain, release}
-use Rattle.lists.specs.Reach.{BlockIn, Among, Givable}
+use Rattle.lists.specs.Reach.{Among, Givable}
 use Rattle.lists.proofs.Gives.{give-one}
 use Rattle.lists.proofs.Reaches.{block-in, shown, roomed}
 

@@ -1,20 +1,19 @@
 -- A release keeps a pool sound and does what it promises; that of an empty tile changes no word.
 use mathlib.Core.Path.{_≡_, refl, sym, ap, _∙_}
 use mathlib.Core.Logic.{_≢_}
-use mathlib.Core.List.{List, [], _∷_, _++_}
-use Prim.Native.Nat.{ℕ, zero, suc, _+_, _*_, _≤_, _<_}
+use mathlib.Core.List.{List, [], _∷_}
+use Prim.Native.Nat.{ℕ, _+_, _*_, _≤_, _<_}
 use native.Mathlib.Nat.{not-suc-le-zero}
 use native.Mathlib.Omega.{arith}
-use lib.Dec.{eqb}
-use lib.ListN.{length, getD, set}
+use lib.ListN.{length, set}
 use lib.Seq.{getD-set-same, getD-set-other, set-getD}
 use Rattle.numbers.specs.Ceil.{ceil}
-use Rattle.pool.specs.Words.{Layout, Fair, start, room, headerWord, tileWord, blockWord, tileSet}
+use Rattle.pool.specs.Words.{Layout, Fair, start, room, tileWord, blockWord, tileSet}
 use Rattle.pool.specs.State.{Chained, empty, State, tileOf, linkTo, lastLink, times}
-use Rattle.pool.specs.Sound.{Shows, Sound, tilesOf, blocksOf}
+use Rattle.pool.specs.Sound.{Shows, Sound, tilesOf}
 use Rattle.pool.specs.Lists.{listOf}
 use Rattle.pool.proofs.Words.{start≤room, tile-set, tile-set-other-tile, tile-set-other-word, length-tileSet, header-tileSet, block-tileSet}
-use Rattle.pool.proofs.Times.{one-same, timesInTiles-at, times-head, times-differ}
+use Rattle.pool.proofs.Times.{timesInTiles-at, times-head, times-differ}
 use Rattle.pool.proofs.Parts.{ceil-none}
 use Rattle.pool.proofs.Chain.{Same, nil-of, frame, holds-nothing}
 use Rattle.pool.proofs.Lists.{listOf-shows, blocks≤entries}

@@ -1,21 +1,19 @@
 -- Two pools that say the same, the second with n blocks more: appends and releases keep them so, and what that means for their words.
-use mathlib.Core.Path.{_≡_, refl, sym, ap, ap₂, _∙_, subst}
-use mathlib.Core.Logic.{_≢_, ⊎-elim}
+use mathlib.Core.Path.{_≡_, refl, sym, ap, _∙_, subst}
 use mathlib.Core.Bool.{Bool, true, false}
 use mathlib.Core.List.{List, [], _∷_, _++_}
 use Prim.Native.Nat.{ℕ, zero, suc, _+_, _≤_, _<_}
 use native.Mathlib.Nat.{not-suc-le-zero}
 use native.Mathlib.Omega.{arith}
 use lib.ListN.{length, length-append}
-use Rattle.numbers.proofs.Ceil.{eq-or-ne}
 use Rattle.screen.specs.declared.Screen.{Screen}
 use Rattle.screen.specs.Screen.{Allowed, tiles}
 use Rattle.pool.specs.Words.{Layout, Fair, room, headerWord, tileWord, blockWord}
-use Rattle.pool.specs.State.{State, tileOf, one, times}
-use Rattle.pool.specs.Sound.{Opened, Shows, Sound, screenOf, tilesOf, blocksOf}
+use Rattle.pool.specs.State.{State, tileOf, one}
+use Rattle.pool.specs.Sound.{Shows, Sound, tilesOf, blocksOf}
 use Rattle.pool.specs.Lists.{listOf}
 use Rattle.pool.specs.Opening.{rising, headerFor, opening, openingState}
-use Rattle.pool.proofs.Times.{one-same, times-append, times-head, times-tail}
+use Rattle.pool.proofs.Times.{times-append}
 use Rattle.pool.proofs.Rising.{length-rising, times-rising}
 use Rattle.pool.proofs.Opening.{opening-screen, opening-tiles, opening-blocks, opening-opened, opening-shows}
 use Rattle.pool.proofs.Chain.{holds-nothing}

@@ -2,11 +2,11 @@
 use mathlib.Core.Path.{_≡_, refl, _∙_}
 use mathlib.Core.Logic.{_≢_}
 use mathlib.Core.List.{List}
-use Prim.Native.Nat.{ℕ, suc, _+_, _*_, _≤_, _<_}
+use Prim.Native.Nat.{ℕ, suc, _≤_, _<_}
 use native.Mathlib.Omega.{arith}
-use lib.ListN.{length, getD, set}
+use lib.ListN.{getD}
 use lib.Seq.{getD-set-other}
-use Rattle.pool.specs.Words.{Layout, Fair, start, room, headerWord, headerSet, tileSet, blockSet}
+use Rattle.pool.specs.Words.{Layout, start, room, headerSet, tileSet, blockSet}
 use Rattle.pool.proofs.Words.{row-within, header≤start, start≤room, header-set-other, header-tileSet, header-blockSet, length-headerSet, length-tileSet, length-blockSet}
 use Rattle.pool.proofs.Header.{Keeps}
 

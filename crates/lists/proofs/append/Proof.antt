@@ -4,7 +4,6 @@ use mathlib.Core.Path.{_≡_, refl, ap, _∙_, sym}
 use Prim.Native.Nat.{ℕ, _%_}
 use native.Mathlib.Omega.{arith}
 use borrow.Author.Needs.{needs}
-use lib.ListN.{length-set}
 use Rattle.pool.specs.Words.{edition, headerWord, tileWord, tileSet, blockSet}
 use Rattle.lists.proofs.Reaches.{tile-in, header-in, last-reach, roomy, takeable}
 use Rattle.lists.proofs.Appends.{append-in, append-first, append-next}

@@ -1,7 +1,6 @@
 -- `free`: the header of a sound pool lies in it.
 use mathlib.Core.Path.{refl}
 use native.Mathlib.Omega.{arith}
-use borrow.Author.Needs.{needs}
 use Rattle.pool.specs.Words.{headerWord}
 use Rattle.lists.proofs.Reaches.{header-in}
 use Rattle.lists.proofs.free.Statement.{statement}

@@ -1,6 +1,6 @@
 -- `release`: to give back the chain that is left ends in the words that are promised, and what is left and what was given back are all of its blocks.
 -- Then the tile's three words are set.
-use mathlib.Core.Path.{_≡_, refl, _∙_}
+use mathlib.Core.Path.{_≡_, refl}
 use Prim.Native.Nat.{_-_}
 use native.Mathlib.Omega.{arith}
 use borrow.Author.Needs.{needs}
@@ -11,7 +11,7 @@ use Rattle.pool.specs.Sound.{blocksOf}
 use Rattle.lists.specs.Releasing.{giveChain}
 use Rattle.lists.proofs.Reaches.{tile-in}
 use Rattle.lists.proofs.ReleaseLoop.{Giving, giving-start, giving-block, giving-step, giving-end, release-stores}
-use Rattle.pool.specs.Words.{edition, tileWord, tileSet}
+use Rattle.pool.specs.Words.{edition, tileWord}
 use Rattle.lists.proofs.release.Statement.{statement}
 use Rattle.lists.proofs.release.Tie as tie
 

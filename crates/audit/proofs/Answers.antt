@@ -5,7 +5,7 @@ use Prim.Native.Nat.{ℕ, suc, _+_, _*_, _≤_}
 use lib.ListN.{length}
 use Rattle.pool.specs.Words.{Layout, start, room}
 use Rattle.pool.specs.Sound.{Opened}
-use Rattle.audit.specs.Answer.{HeaderOf, AuditSays}
+use Rattle.audit.specs.Answer.{HeaderOf, AuditFinds}
 use Rattle.audit.specs.declared.Header.{Header}
 use Rattle.audit.specs.declared.Audited.{Audited}
 use Rattle.audit.specs.declared.Audited.the-variants.{Sound, Damaged}
@@ -20,7 +20,7 @@ header-once a b = λ i. record {
 }
 
 -- and one answer
-pub answer-once : (p : List ℕ) (x y : Audited) → AuditSays p x → AuditSays p y → x ≡ y
+pub answer-once : (p : List ℕ) (x y : Audited) → AuditFinds p x → AuditFinds p y → x ≡ y
 answer-once p (Sound g) (Sound h) a b = ap Sound (header-once (a .1) (b .1))
 answer-once p (Sound g) Damaged a b = absurd (b (a .0))
 answer-once p Damaged (Sound h) a b = absurd (a (b .0))

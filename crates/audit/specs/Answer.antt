@@ -16,6 +16,6 @@ pub record HeaderOf (L : Layout) (p : List ℕ) (header : Header) : Type 0 where
   pub start : header .start ≡ start L (tilesOf p)
 
 -- the words p are a sound pool with that header; or they are no sound pool
-abbrev pub AuditSays : (p : List ℕ) → Audited → Type 0
-AuditSays p (Sound header) = SoundPool edition p × HeaderOf edition p header
-AuditSays p Damaged = SoundPool edition p → ⊥
+abbrev pub AuditFinds : (p : List ℕ) → Audited → Type 0
+AuditFinds p (Sound header) = SoundPool edition p × HeaderOf edition p header
+AuditFinds p Damaged = SoundPool edition p → ⊥

@@ -26,7 +26,7 @@ ghost use Rattle.pool.specs.State.{times};
 ghost use Rattle.pool.specs.Sound.{screenOf, Opened};
 ghost use Rattle.audit.specs.Chain.{Places, timesInFirst};
 ghost use Rattle.audit.specs.Walk.{blockAt, tileAt, wordOf, WalkSays, Passes, chainOf, TileRight, TilesRight, ChainsRight};
-ghost use Rattle.audit.specs.Answer.{HeaderOf, AuditSays};
+ghost use Rattle.audit.specs.Answer.{HeaderOf, AuditFinds};
 
 // The last id place of a block.
 const LAST_ID: usize = BLOCK_IDS - 1;
@@ -238,7 +238,7 @@ fn opened(pool: &[u32]) -> bool
 
 // Whether a slice is a sound pool, and what its header says if it is.
 pub fn audit(pool: &[u32]) -> Audited
-    ensures { λ r. ⌜ AuditSays (now (pool .entry)) r ⌝ }
+    ensures { λ r. ⌜ AuditFinds (now (pool .entry)) r ⌝ }
 {
     if !opened(pool) {
         return Audited::Damaged;

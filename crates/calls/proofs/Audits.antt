@@ -10,16 +10,16 @@ use Rattle.pool.proofs.Words.{edition-fair}
 use Rattle.audit.specs.declared.Header.{Header}
 use Rattle.audit.specs.declared.Audited.{Audited}
 use Rattle.audit.specs.declared.Audited.the-variants.{Sound, Damaged}
-use Rattle.audit.specs.Answer.{HeaderOf, AuditSays}
+use Rattle.audit.specs.Answer.{HeaderOf, AuditFinds}
 use Rattle.lists.specs.Reach.{Among}
 use Rattle.lists.proofs.Named.{list-length}
 use Rattle.calls.specs.Tables.{listIn}
 
-pub told-damaged : {p : List ℕ} {x : Audited} → x ≡ Damaged → AuditSays p x → SoundPool edition p → ⊥
-told-damaged {p} e h = subst (AuditSays p) e h
+pub told-damaged : {p : List ℕ} {x : Audited} → x ≡ Damaged → AuditFinds p x → SoundPool edition p → ⊥
+told-damaged {p} e h = subst (AuditFinds p) e h
 
-pub told-sound : {p : List ℕ} {x : Audited} {h : Header} → x ≡ Sound h → AuditSays p x → SoundPool edition p × HeaderOf edition p h
-told-sound {p} e h = subst (AuditSays p) e h
+pub told-sound : {p : List ℕ} {x : Audited} {h : Header} → x ≡ Sound h → AuditFinds p x → SoundPool edition p × HeaderOf edition p h
+told-sound {p} e h = subst (AuditFinds p) e h
 
 module _ {p : List ℕ} {h : Header} (k : SoundPool edition p × HeaderOf edition p h) where
   pub past-tiles : {t : ℕ} → h .tiles ≤ t → tilesOf p ≤ t

@@ -1,6 +1,6 @@
 -- Demand 1: whatever the words are, a refusal gives one of its numbers, zero in every other field, and leaves the words unchanged; an accepted call writes
--- nothing outside the room. That each call ends, stays inside its buffers and asks nothing is what the functions of `calls` are proved for, having
--- no `requires`.
+-- nothing outside the room. That each call ends, stays inside its buffers and asks nothing is what the public functions of `calls` are proved for,
+-- having no `requires`.
 use mathlib.Core.Path.{_≡_}
 use mathlib.Core.Logic.{_≢_, _⊎_}
 use mathlib.Core.Bool.{false}

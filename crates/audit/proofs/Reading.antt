@@ -6,17 +6,17 @@ use native.Mathlib.Omega.{arith}
 use lib.ListN.{getD}
 use Rattle.numbers.specs.Ceil.{ceil}
 use Rattle.pool.specs.Words.{Layout, headerWord, tileWord}
-use Rattle.audit.specs.Walk.{tileAt, WalkSays}
+use Rattle.audit.specs.Walk.{tileStart, WalkSays}
 use Rattle.audit.specs.declared.Walked.{Walked}
 
 module _ (L : Layout) (p : List ℕ) where
-  pub tile-word : {k t : ℕ} (i : ℕ) → k ≡ t → getD p (tileAt L k + i) 0 ≡ tileWord L p t i
+  pub tile-word : {k t : ℕ} (i : ℕ) → k ≡ t → getD p (tileStart L k + i) 0 ≡ tileWord L p t i
   unfolding tileWord
   tile-word i e = rw e refl
 
-  pub tile-entries : {k t : ℕ} → k ≡ t → getD p (tileAt L k) 0 ≡ tileWord L p t 0
+  pub tile-entries : {k t : ℕ} → k ≡ t → getD p (tileStart L k) 0 ≡ tileWord L p t 0
   unfolding tileWord
-  tile-entries {k} {t} e = let z : tileAt L k ≡ tileAt L k + 0 = omega arith in rw (z, e) refl
+  tile-entries {k} {t} e = let z : tileStart L k ≡ tileStart L k + 0 = omega arith in rw (z, e) refl
 
   module _ (from n : ℕ) (v w : List ℕ) (r : Walked) where
     -- a walk along the chain of tile t

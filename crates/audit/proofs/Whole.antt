@@ -12,7 +12,7 @@ use Rattle.pool.specs.State.{Chained, empty, State, tileOf, lastLink, times, ti
 use Rattle.pool.specs.Sound.{tilesOf, blocksOf, Opened, TileShows, Shows, Sound}
 use Rattle.pool.proofs.State.{tile-block<, free-block<}
 use Rattle.audit.specs.Chain.{Chain, Filled, Places, next, Run, timesInFirst}
-use Rattle.audit.specs.Walk.{wordOf, chainFrom, chainOf, freeOf, TileRight, FreeRight, ChainsRight}
+use Rattle.audit.specs.Walk.{blockWordFrom, chainFrom, chainOf, freeOf, TileRight, FreeRight, ChainsRight}
 use Rattle.audit.proofs.Follow.{length-follow, follow-chain}
 use Rattle.audit.proofs.Held.{laid, length-list, held, ids-filled, chain-link, chain-none, chain-held, filled-held}
 
@@ -57,7 +57,7 @@ times-row b (suc n) f = omega (arith, times-front b (λ t. f t .blocks) n, times
 
 -- the link of a block, in a pool of T tiles
 abbrev links : Layout → (T : ℕ) → List ℕ → (b : ℕ) → ℕ
-links L T p = next L (wordOf L p (start L T))
+links L T p = next L (blockWordFrom L p (start L T))
 
 module _ (L : Layout) (0<ids : 0 < L .ids) (T N : ℕ) (p : List ℕ) where
   -- ---- from the walks to the state
@@ -141,11 +141,11 @@ module _ (L : Layout) (0<ids : 0 < L .ids) (T N : ℕ) (p : List ℕ) where
 
     -- a right chain is a right run of the blocks that its links lead to
     run-of : (link q k : ℕ) (bs : List ℕ) → bs ≡ chainFrom L p (start L T) k link → Chain (links L T p) N link bs
-        → Filled (λ b. Places L (wordOf L p (start L T) b)) (L .ids) q bs → Run L (wordOf L p (start L T)) N link q k
+        → Filled (λ b. Places L (blockWordFrom L p (start L T) b)) (L .ids) q bs → Run L (blockWordFrom L p (start L T)) N link q k
     run-of link q k bs e c f =
         record {
           chain = subst (λ (l : List ℕ). Chain (links L T p) N link l) e c;
-          filled = subst (λ (l : List ℕ). Filled (λ b. Places L (wordOf L p (start L T) b)) (L .ids) q l) e f;
+          filled = subst (λ (l : List ℕ). Filled (λ b. Places L (blockWordFrom L p (start L T) b)) (L .ids) q l) e f;
         }
 
     tile-right : (t : ℕ) → t < T → TileRight L p (start L T) N t

@@ -12,16 +12,16 @@ use Rattle.audit.specs.declared.Walked.{Walked}
 use Rattle.audit.specs.declared.Walked.the-variants.{Broken, Ends}
 
 -- where tile t starts
-abbrev pub tileAt : Layout → (t : ℕ) → ℕ
-tileAt L t = L .header + L .tile * t
+abbrev pub tileStart : Layout → (t : ℕ) → ℕ
+tileStart L t = L .header + L .tile * t
 
 -- where block b starts
-abbrev pub blockAt : Layout → (from b : ℕ) → ℕ
-blockAt L from b = from + suc (L .ids) * b
+abbrev pub blockStart : Layout → (from b : ℕ) → ℕ
+blockStart L from b = from + suc (L .ids) * b
 
 -- word k of block b
-abbrev pub wordOf : Layout → List ℕ → (from b k : ℕ) → ℕ
-wordOf L p from b k = getD p (blockAt L from b + k) 0
+abbrev pub blockWordFrom : Layout → List ℕ → (from b k : ℕ) → ℕ
+blockWordFrom L p from b k = getD p (blockStart L from b + k) 0
 
 -- no block is marked twice, by the marks v and as often as `count` says
 abbrev pub Apart : (n : ℕ) (v : List ℕ) (count : ℕ → ℕ) → Type 0
@@ -39,17 +39,17 @@ pub record Passes (r : Bool) (P : Type 0) (n : ℕ) (v w : List ℕ) (count : �
 module _ (L : Layout) (p : List ℕ) (from : ℕ) where
   -- the s blocks that the links lead to from `link` on
   abbrev pub chainFrom : (s link : ℕ) → List ℕ
-  chainFrom s link = follow (next L (wordOf L p from)) s link
+  chainFrom s link = follow (next L (blockWordFrom L p from)) s link
 
   module _ (n link q s : ℕ) (v w : List ℕ) where
     pub record Walks (last : ℕ) : Type 0 where
-      pub run : Run L (wordOf L p from) n link q s
+      pub run : Run L (blockWordFrom L p from) n link q s
       pub last-is : last ≡ lastLink 0 (chainFrom s link)
       pub marked : Marked v w (λ b. times b (chainFrom s link))
 
     -- the s blocks from `link` on are a chain with q entries, whose blocks were not marked and now are; or they are none
     abbrev pub WalkSays : Walked → Type 0
-    WalkSays Broken = Run L (wordOf L p from) n link q s → Apart n v (λ b. times b (chainFrom s link)) → ⊥
+    WalkSays Broken = Run L (blockWordFrom L p from) n link q s → Apart n v (λ b. times b (chainFrom s link)) → ⊥
     WalkSays (Ends last) = Walks last
 
   -- the blocks of tile t, as many as its entries need
@@ -62,14 +62,14 @@ module _ (L : Layout) (p : List ℕ) (from : ℕ) where
 
   -- tile t has its chain, and names its last block
   pub record TileRight (n t : ℕ) : Type 0 where
-    pub run : Run L (wordOf L p from) n (tileWord L p t 1) (tileWord L p t 0) (ceil (tileWord L p t 0) (L .ids))
+    pub run : Run L (blockWordFrom L p from) n (tileWord L p t 1) (tileWord L p t 0) (ceil (tileWord L p t 0) (L .ids))
     pub last : tileWord L p t 2 ≡ lastLink 0 (chainOf t)
 
   abbrev pub TilesRight : (n count : ℕ) → Type 0
   TilesRight n count = (t : ℕ) → t < count → TileRight n t
 
   abbrev pub FreeRight : (n : ℕ) → Type 0
-  FreeRight n = Run L (wordOf L p from) n (headerWord p 5) 0 (headerWord p 4)
+  FreeRight n = Run L (blockWordFrom L p from) n (headerWord p 5) 0 (headerWord p 4)
 
   -- the tiles and the free blocks have their chains, and each of the n blocks stands in one of them, once
   pub record ChainsRight (n count : ℕ) : Type 0 where

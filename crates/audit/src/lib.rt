@@ -25,7 +25,7 @@ ghost use Rattle.pool.specs.Words.{edition};
 ghost use Rattle.pool.specs.State.{times};
 ghost use Rattle.pool.specs.Sound.{screenOf, Opened};
 ghost use Rattle.audit.specs.Chain.{Places, timesInFirst};
-ghost use Rattle.audit.specs.Walk.{blockAt, tileAt, wordOf, WalkSays, Passes, chainOf, TileRight, TilesRight, ChainsRight};
+ghost use Rattle.audit.specs.Walk.{blockStart, tileStart, blockWordFrom, WalkSays, Passes, chainOf, TileRight, TilesRight, ChainsRight};
 ghost use Rattle.audit.specs.Answer.{HeaderOf, AuditFinds};
 
 // The last id place of a block.
@@ -53,8 +53,8 @@ enum Walked {
 
 // Whether the id places of a block hold k ids, and then poison.
 fn block_right(pool: &[u32], from: usize, block: Block, k: usize) -> bool
-    requires { ⌜ blockAt edition from (block .0 + 1) ≤ length (now pool) ⌝ }
-    ensures { λ r. ⌜ Says r (Places edition (wordOf edition (now (pool .entry)) from (block .0)) k) ⌝ }
+    requires { ⌜ blockStart edition from (block .0 + 1) ≤ length (now pool) ⌝ }
+    ensures { λ r. ⌜ Says r (Places edition (blockWordFrom edition (now (pool .entry)) from (block .0)) k) ⌝ }
 {
     let at = from + BLOCK_WORDS * wide(block.0);
     let mut j = 0;
@@ -76,8 +76,8 @@ fn block_right(pool: &[u32], from: usize, block: Block, k: usize) -> bool
 
 // The link of a block.
 fn link_of(pool: &[u32], from: usize, block: Block) -> u32
-    requires { ⌜ blockAt edition from (block .0 + 1) ≤ length (now pool) ⌝ }
-    ensures { λ r. ⌜ r ≡ wordOf edition (now (pool .entry)) from (block .0) (edition .ids) ⌝ }
+    requires { ⌜ blockStart edition from (block .0 + 1) ≤ length (now pool) ⌝ }
+    ensures { λ r. ⌜ r ≡ blockWordFrom edition (now (pool .entry)) from (block .0) (edition .ids) ⌝ }
 {
     let at = from + BLOCK_WORDS * wide(block.0);
     pool[at + BLOCK_IDS]
@@ -93,7 +93,7 @@ fn walk(
     mut q: usize,
     mut left: usize,
 ) -> Walked
-    requires { ⌜ (blockAt edition from blocks ≤ length (now pool)) × (blocks ≤ length (now marks)) ⌝ }
+    requires { ⌜ (blockStart edition from blocks ≤ length (now pool)) × (blocks ≤ length (now marks)) ⌝ }
     ensures { λ r. ⌜ WalkSays edition (now (pool .entry)) from blocks link q left (now (marks .entry)) (now (marks .exit)) r ⌝ }
 {
     let mut last = 0;
@@ -126,7 +126,7 @@ fn walk(
 
 // Whether a tile has its chain and names the last block of it. The chain's blocks are marked.
 fn tile_right(pool: &[u32], marks: &mut [u8], from: usize, blocks: u32, tile: Tile) -> bool
-    requires { ⌜ (blockAt edition from blocks ≤ length (now pool)) × (blocks ≤ length (now marks)) × (tileAt edition (tile .0 + 1) ≤ length (now pool)) ⌝ }
+    requires { ⌜ (blockStart edition from blocks ≤ length (now pool)) × (blocks ≤ length (now marks)) × (tileStart edition (tile .0 + 1) ≤ length (now pool)) ⌝ }
     ensures { λ r. ⌜ Passes r (TileRight edition (now (pool .entry)) from blocks (tile .0)) blocks (now (marks .entry)) (now (marks .exit)) (λ b. times b (chainOf edition (now (pool .entry)) from (tile .0))) ⌝ }
 {
     let at = HEADER_WORDS + TILE_WORDS * wide(tile.0);
@@ -140,7 +140,7 @@ fn tile_right(pool: &[u32], marks: &mut [u8], from: usize, blocks: u32, tile: Ti
 
 // Whether each of the first `count` tiles has its chain. All their blocks are marked.
 fn tiles_right(pool: &[u32], marks: &mut [u8], from: usize, blocks: u32, count: u32) -> bool
-    requires { ⌜ (blockAt edition from blocks ≤ length (now pool)) × (blocks ≤ length (now marks)) × (tileAt edition count ≤ length (now pool)) ⌝ }
+    requires { ⌜ (blockStart edition from blocks ≤ length (now pool)) × (blocks ≤ length (now marks)) × (tileStart edition count ≤ length (now pool)) ⌝ }
     ensures { λ r. ⌜ Passes r (TilesRight edition (now (pool .entry)) from blocks count) blocks (now (marks .entry)) (now (marks .exit)) (λ b. timesInFirst b (chainOf edition (now (pool .entry)) from) count) ⌝ }
 {
     let mut t = 0;
@@ -170,7 +170,7 @@ fn all_marked(marks: &[u8], n: usize) -> bool
 
 // Whether the tiles and the free blocks have their chains, and every block stands in one of them, once.
 fn chains_right(pool: &[u32], from: usize, blocks: u32, count: u32) -> bool
-    requires { ⌜ (edition .header ≤ length (now pool)) × (blockAt edition from blocks ≤ length (now pool)) × (blocks ≤ 2048) × (tileAt edition count ≤ length (now pool)) ⌝ }
+    requires { ⌜ (edition .header ≤ length (now pool)) × (blockStart edition from blocks ≤ length (now pool)) × (blocks ≤ 2048) × (tileStart edition count ≤ length (now pool)) ⌝ }
     ensures { λ r. ⌜ Says r (ChainsRight edition (now (pool .entry)) from blocks count) ⌝ }
 {
     let mut marks = [0u8; 2048];

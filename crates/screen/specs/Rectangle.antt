@@ -32,7 +32,7 @@ rectangleAt d column row =
 abbrev pub rectangle : Screen → ℕ → Rectangle
 rectangle d t = rectangleAt d (columnOf d t) (rowOf d t)
 
--- a rectangle whose sides are in order and on the screen: all that the geometry may assume of a tile's
+-- a rectangle whose sides are in order, none negative and none past 524,288: all that the geometry may assume of a tile's
 pub record Proper (q : Rectangle) : Type 0 where
   pub left≥ : pos 0 ≤ℤ q .left
   pub wide : q .left ≤ℤ q .right

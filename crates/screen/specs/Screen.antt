@@ -16,7 +16,7 @@ rows d = across (d .height) (d .s)
 abbrev pub tiles : Screen → ℕ
 tiles d = columns d * rows d
 
--- what number 1 is refused for is what this rule does not allow
+-- the rule for a screen: number 1 is given exactly where it fails
 pub record Allowed (d : Screen) : Type 0 where
   pub width≥ : 1 ≤ d .width
   pub width≤ : d .width ≤ 4096

@@ -19,7 +19,7 @@ use Rattle.touch.proofs.Gaps.{row-of-tiles-has-no-gap}
 use Rattle.touch.proofs.Sizes.{side-within}
 use Rattle.touch.proofs.Theorem.{touching-meets-box, outline-clear-is-touching}
 use Rattle.walk.specs.Lists.{IsTouched, Below, Lists, ListsBefore}
-use Rattle.walk.specs.Row.{ClearIn, First, RunIn, shapeOf, MeetingColumns, MeetingRows, MeetsRow}
+use Rattle.walk.specs.Row.{ClearIn, First, RunIn, outlined, MeetingColumns, MeetingRows, MeetsRow}
 use Rattle.walk.proofs.Lists.{lists-none, lists-iff, lists-run, lists-skip, run-none, run-more}
 
 -- ---- the sides of a tile are of a size that the test takes
@@ -44,7 +44,7 @@ module _ (d : Screen) (a : Allowed d) where
 
 module _ (d : Screen) (a : Allowed d) (e : Edges) (o : Outline e) (row : ℕ) (r< : row < rows d) (m : MeetsRow d e row) (span : Span) (c : MeetingColumns d e span) where
   abbrev P : ℕ → Type 0
-  P t = IsTouched d (shapeOf e) t
+  P t = IsTouched d (outlined e) t
 
   abbrev Q : ℕ → Type 0
   Q column = ClearIn d (rowEdges e (near (d .height) (d .s) row) (far (d .height) (d .s) row)) column
@@ -55,20 +55,20 @@ module _ (d : Screen) (a : Allowed d) (e : Edges) (o : Outline e) (row : ℕ) (r
   in-columns : {k : ℕ} → In span k → k < columns d
   in-columns i = let b = i .before in let w = c .within in omega arith
 
-  test : {k : ℕ} → In span k → Q k ↔ Touches (shapeOf e) (rectangleAt d k row)
+  test : {k : ℕ} → In span k → Q k ↔ Touches (outlined e) (rectangleAt d k row)
   test {k} i =
       let n = c .sound k i in
       outline-clear-is-touching o (rectangle-proper d a (in-columns i) r<)
       (record { left = n .from; right = n .to; top = m .from; bottom = m .to })
 
   clear-touched : {k : ℕ} → In span k → Q k → P (base + k)
-  clear-touched {k} i q = (tile< d a (in-columns i) r<, subst (Touches (shapeOf e)) (sym (tile-rectangle d a k row (in-columns i))) (test i .0 q))
+  clear-touched {k} i q = (tile< d a (in-columns i) r<, subst (Touches (outlined e)) (sym (tile-rectangle d a k row (in-columns i))) (test i .0 q))
 
   record Column (t : ℕ) : Type 0 where
     k : ℕ
     number : t ≡ base + k
     inside : In span k
-    touches : Touches (shapeOf e) (rectangleAt d k row)
+    touches : Touches (outlined e) (rectangleAt d k row)
     clear : Q k
 
   -- a touched tile of the row stands in the span, and its column is clear
@@ -77,8 +77,8 @@ module _ (d : Screen) (a : Allowed d) (e : Edges) (o : Outline e) (row : ℕ) (r
       let k : ℕ = t - base in
       let n : t ≡ base + k = omega arith in
       let k< : k < columns d = omega arith in
-      let q : Touches (shapeOf e) (rectangleAt d k row)
-      = subst (Touches (shapeOf e)) (ap (rectangle d) n ∙ tile-rectangle d a k row k<) (p .1) in
+      let q : Touches (outlined e) (rectangleAt d k row)
+      = subst (Touches (outlined e)) (ap (rectangle d) n ∙ tile-rectangle d a k row k<) (p .1) in
       let i : In span k = c .whole k k< (let b = touching-meets-box q in record { from = b .left; to = b .right }) in
       record { k = k; number = n; inside = i; touches = q; clear = test i .1 q }
 
@@ -87,7 +87,7 @@ module _ (d : Screen) (a : Allowed d) (e : Edges) (o : Outline e) (row : ℕ) (r
 
   -- no column of the span is clear
   pub row-without : {first n : ℕ} {old new : List ℕ} → First Q span first → span .end ≤ first
-      → ListsBefore d (shapeOf e) row n old new → ListsBefore d (shapeOf e) (row + 1) n old new
+      → ListsBefore d (outlined e) row n old new → ListsBefore d (outlined e) (row + 1) n old new
   row-without {first} {n} {old} {new} f l g =
       subst (λ (m : ℕ). Lists (Below m P) n old new) (sym next-row)
       (lists-skip P (omega arith)
@@ -100,7 +100,7 @@ module _ (d : Screen) (a : Allowed d) (e : Edges) (o : Outline e) (row : ℕ) (r
   -- the run from the first clear column on
   pub row-with : {first count n : ℕ} {old mid new : List ℕ} → First Q span first → first < span .end → count < length mid
       → RunIn Q base (record { start = first + 1; end = span .end }) (count + 1) n (set mid count (base + first)) new
-      → ListsBefore d (shapeOf e) row count old mid → ListsBefore d (shapeOf e) (row + 1) n old new
+      → ListsBefore d (outlined e) row count old mid → ListsBefore d (outlined e) (row + 1) n old new
   row-with {first} {count} {n} {old} {mid} {new} f l room r g =
       subst (λ (m : ℕ). Lists (Below m P) n old new) (sym next-row)
       (lists-skip P after≤ after (lists-run P second (r .run) (λ k u h. clear-touched (record { from = in-from k u; before = in-before k h }) (r .run .all k u h))))
@@ -144,7 +144,7 @@ module _ (d : Screen) (a : Allowed d) (e : Edges) (o : Outline e) (row : ℕ) (r
           let stop< : r .stop < span .end = omega arith in
           let s = f .from in
           let at : In span (r .stop) = record { from = omega arith; before = stop< } in
-          let g = row-of-tiles-has-no-gap d a (shapeOf e) row {c₁ = first} {c₂ = r .stop} {c₃ = w .k} (omega arith) stop≤ (in-columns i)
+          let g = row-of-tiles-has-no-gap d a (outlined e) row {c₁ = first} {c₂ = r .stop} {c₃ = w .k} (omega arith) stop≤ (in-columns i)
           (test here .0 (f .first l)) (w .touches) in
           r .ends stop< (test at .1 g)
 
@@ -152,14 +152,14 @@ module _ (d : Screen) (a : Allowed d) (e : Edges) (o : Outline e) (row : ℕ) (r
 
 module _ (d : Screen) (a : Allowed d) (e : Edges) (span : Span) (c : MeetingRows d e span) where
   -- a touched tile stands in a row of the span
-  touched-row : (t : ℕ) → IsTouched d (shapeOf e) t → In span (rowOf d t)
+  touched-row : (t : ℕ) → IsTouched d (outlined e) t → In span (rowOf d t)
   touched-row t p =
       c .whole (rowOf d t) (row< d a t (p .0)) (let b = touching-meets-box (p .1) in record { from = b .top; to = b .bottom })
 
   -- before the first row nothing is touched
-  pub rows-none : (old : List ℕ) → ListsBefore d (shapeOf e) (span .start) 0 old old
+  pub rows-none : (old : List ℕ) → ListsBefore d (outlined e) (span .start) 0 old old
   rows-none old =
-      lists-none (Below (span .start * columns d) (IsTouched d (shapeOf e))) old
+      lists-none (Below (span .start * columns d) (IsTouched d (outlined e))) old
       (λ t p.
       let i = touched-row t (p .1) .from in
       let n = column-row d a t in
@@ -167,9 +167,9 @@ module _ (d : Screen) (a : Allowed d) (e : Edges) (span : Span) (c : MeetingRows
       omega (arith, mul-le-mul-left (columns d) i))
 
   -- after the last there is nothing more
-  pub rows-all : {row n : ℕ} {old new : List ℕ} → span .end ≤ row → ListsBefore d (shapeOf e) row n old new → Lists (IsTouched d (shapeOf e)) n old new
+  pub rows-all : {row n : ℕ} {old new : List ℕ} → span .end ≤ row → ListsBefore d (outlined e) row n old new → Lists (IsTouched d (outlined e)) n old new
   rows-all {row} {n} {old} {new} h l =
-      lists-iff (Below (row * columns d) (IsTouched d (shapeOf e))) (IsTouched d (shapeOf e)) (λ t p. p .1)
+      lists-iff (Below (row * columns d) (IsTouched d (outlined e))) (IsTouched d (outlined e)) (λ t p. p .1)
       (λ t p.
       let i = touched-row t p .before in
       let c< = column< d a t in

@@ -41,8 +41,8 @@ pub record RunIn (P : ℕ → Type 0) (base : ℕ) (span : Span) (count n : ℕ)
 
 -- ---- the shape that the edges are of, and its bounding box
 
-abbrev pub shapeOf : Edges → Shape
-shapeOf e = triangle (starts e)
+abbrev pub outlined : Edges → Shape
+outlined e = triangle (starts e)
 
 abbrev pub MeetingColumns : Screen → Edges → Span → Type 0
 MeetingColumns d e span = Meeting (d .width) (d .s) (bounds (starts e) .left) (bounds (starts e) .right) span

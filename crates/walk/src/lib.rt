@@ -10,7 +10,7 @@ ghost use Rattle.shape.specs.Shape.{InRange};
 ghost use Rattle.touch.specs.Edges.{Outline, RowEdgesRange};
 ghost use Rattle.walk.specs.Touched.{Walked};
 ghost use Rattle.walk.specs.Lists.{IsTouched, Lists, ListsBefore};
-ghost use Rattle.walk.specs.Row.{ClearIn, First, RunIn, shapeOf, MeetingColumns, MeetingRows, MeetsRow};
+ghost use Rattle.walk.specs.Row.{ClearIn, First, RunIn, outlined, MeetingColumns, MeetingRows, MeetsRow};
 use numbers::wide;
 use screen::Screen;
 use screen::Span;
@@ -78,7 +78,7 @@ fn walk_row(screen: Screen, edges: Edges, row: u32, span: Span, list: &mut [u32]
     requires { ⌜ (Allowed screen) × (Outline edges) × (MeetingColumns screen edges span) ⌝ }
     requires { ⌜ (row < rows screen) × (MeetsRow screen edges row) ⌝ }
     requires { ⌜ (count ≤ row * columns screen) × (4096 ≤ length (now list)) ⌝ }
-    ensures { λ r. ⌜ ((old : List ℕ) → ListsBefore screen (shapeOf edges) row count old (now (list .entry)) → ListsBefore screen (shapeOf edges) (row + 1) r old (now (list .exit))) ⌝ }
+    ensures { λ r. ⌜ ((old : List ℕ) → ListsBefore screen (outlined edges) row count old (now (list .entry)) → ListsBefore screen (outlined edges) (row + 1) r old (now (list .exit))) ⌝ }
 {
     let top = screen::near_side(screen.height, screen.s, row);
     let bottom = screen::far_side(screen.height, screen.s, row);
@@ -108,7 +108,7 @@ fn walk_row(screen: Screen, edges: Edges, row: u32, span: Span, list: &mut [u32]
 fn walk_rows(screen: Screen, edges: Edges, columns: Span, rows: Span, list: &mut [u32]) -> u32
     requires { ⌜ (Allowed screen) × (Outline edges) × (MeetingColumns screen edges columns) × (MeetingRows screen edges rows) ⌝ }
     requires { ⌜ 4096 ≤ length (now list) ⌝ }
-    ensures { λ r. ⌜ Lists (IsTouched screen (shapeOf edges)) r (now (list .entry)) (now (list .exit)) ⌝ }
+    ensures { λ r. ⌜ Lists (IsTouched screen (outlined edges)) r (now (list .entry)) (now (list .exit)) ⌝ }
 {
     let end = rows.end;
     let mut row = rows.start;

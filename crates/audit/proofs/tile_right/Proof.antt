@@ -5,7 +5,7 @@ use borrow.Author.Tests.{eqb-true, eqb-false}
 use denote.Ref.{now}
 use Rattle.numbers.specs.Ceil.{ceil}
 use Rattle.pool.specs.Words.{edition, tileWord}
-use Rattle.audit.specs.Walk.{tileAt, WalkSays}
+use Rattle.audit.specs.Walk.{tileStart, WalkSays}
 use Rattle.audit.proofs.Passing.{passes-no}
 use Rattle.audit.proofs.Reading.{tile-word, tile-entries, of-tile}
 use borrow.Author.Needs.{needs}
@@ -42,7 +42,7 @@ wide-requires-2 : tie.Need-wide-requires-2
 wide-requires-2 c κs = search needs
 
 add-steps : tie.Need-add-steps
-add-steps c = omega (arith, c .before .shared-slice-known2 .given (tileAt edition (c .before .before .wide .result)))
+add-steps c = omega (arith, c .before .shared-slice-known2 .given (tileStart edition (c .before .before .wide .result)))
 
 add-walk : tie.Need-add-walk
 add-walk c = search needs

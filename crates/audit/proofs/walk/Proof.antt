@@ -7,14 +7,14 @@ use borrow.Author.Tests.{not-true, not-false}
 use lib.ListN.{getD}
 use Rattle.pool.specs.Words.{edition}
 use Rattle.audit.specs.Chain.{Places, next}
-use Rattle.audit.specs.Walk.{wordOf}
+use Rattle.audit.specs.Walk.{blockWordFrom}
 use Rattle.audit.proofs.Follow.{Going, going-start, going-step, going-next, going-stops, going-ends}
 use Rattle.audit.proofs.walk.Statement.{statement}
 use Rattle.audit.proofs.walk.Tie as tie
 
 abbrev Inv-loop : tie.InvT-loop
 Inv-loop pool marks₀ from blocks link₀ q₀ left₀ last₀ marks link q left last =
-    Going (next edition (wordOf edition pool from)) blocks (λ b. Places edition (wordOf edition pool from b)) (edition .ids)
+    Going (next edition (blockWordFrom edition pool from)) blocks (λ b. Places edition (blockWordFrom edition pool from b)) (edition .ids)
     marks₀ link₀ q₀ left₀ marks link q left last
 
 abbrev μ-loop : tie.MeasureT-loop

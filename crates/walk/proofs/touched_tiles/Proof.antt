@@ -12,7 +12,7 @@ use Rattle.touch.specs.Edges.{AllPlaced, edgesOf, starts, Outline}
 use Rattle.touch.proofs.Sizes.{three-placed, right-in-units, bottom-in-units, outline}
 use Rattle.touch.proofs.Weights.{touches-as-triangle}
 use Rattle.walk.specs.Lists.{IsTouched, Lists}
-use Rattle.walk.specs.Row.{shapeOf}
+use Rattle.walk.specs.Row.{outlined}
 use Rattle.walk.proofs.Lists.{lists-iff}
 use Rattle.walk.proofs.Touched.{lists-walked}
 use borrow.Author.Needs.{needs}
@@ -89,10 +89,10 @@ returns c =
     let room = s .pre .0 .tiles≤ in
     let long = s .pre .2 in
     lists-walked (omega arith)
-    (lists-iff (IsTouched d (shapeOf (edgesOf (three (s .args .shape))))) (IsTouched d (s .args .shape))
+    (lists-iff (IsTouched d (outlined (edgesOf (three (s .args .shape))))) (IsTouched d (s .args .shape))
     (λ t p. (p .0, touches-as-triangle (s .args .shape) .1 (p .1)))
     (λ t p. (p .0, touches-as-triangle (s .args .shape) .0 (p .1)))
-    (subst (λ (e : Edges). Lists (IsTouched d (shapeOf e)) (c .before .before .walk-rows .result) (s .args .list .now) (c .before .before .walk-rows .last .1 .1 .1 .1 .0)) edges (c .before .before .walk-rows .ensures)))
+    (subst (λ (e : Edges). Lists (IsTouched d (outlined e)) (c .before .before .walk-rows .result) (s .args .list .now) (c .before .before .walk-rows .last .1 .1 .1 .1 .0)) edges (c .before .before .walk-rows .ensures)))
 
 pub touched-tiles-spec : {M : Type 1} → statement M
 touched-tiles-spec =

@@ -4,7 +4,7 @@ use native.Mathlib.Omega.{arith}
 use borrow.Author.Needs.{needs}
 use Rattle.screen.specs.Rectangle.{In}
 use Rattle.walk.specs.Lists.{ListsBefore}
-use Rattle.walk.specs.Row.{shapeOf}
+use Rattle.walk.specs.Row.{outlined}
 use Rattle.walk.proofs.Lists.{lists-few}
 use Rattle.walk.proofs.Grid.{rows-none, rows-all}
 use Rattle.walk.proofs.walk_rows.Statement.{statement}
@@ -12,7 +12,7 @@ use Rattle.walk.proofs.walk_rows.Tie as tie
 
 abbrev Inv-loop : tie.InvT-loop
 Inv-loop screen edges columns list₀ end row₀ count₀ list row count =
-    (row₀ ≤ row) × ListsBefore screen (shapeOf edges) row count list₀ list
+    (row₀ ≤ row) × ListsBefore screen (outlined edges) row count list₀ list
 
 abbrev μ-loop : tie.MeasureT-loop
 μ-loop screen edges columns list₀ end row₀ count₀ list row count = end - row

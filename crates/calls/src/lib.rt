@@ -9,6 +9,7 @@ use screen::Screen;
 use screen::Tile;
 use shape::Shape;
 use snap::PixelShape;
+use snap::Snapped;
 use snap::SnappedShape;
 ghost use mathlib.Core.Path.{_≡_};
 ghost use Rattle.pool.specs.Words.{edition};
@@ -19,6 +20,7 @@ ghost use Rattle.audit.specs.Answer.{HeaderOf};
 ghost use Rattle.calls.specs.Tables.{AuditSays, refusedBin, PlaceSays, BinSays, BinPixelsSays, ReadSays, ReleaseSays};
 ghost use Prim.Native.Nat.{_<_};
 ghost use Rattle.calls.specs.Questions.{QuestionSays, notAsked, BoxSays, CornerSays};
+ghost use Rattle.calls.specs.Units.{UnitSays};
 
 // What a bin answers: its number, the tiles listed and the blocks taken.
 pub struct Binned {
@@ -43,6 +45,12 @@ pub struct Found {
 pub struct Answered {
     pub number: u32,
     pub touches: bool,
+}
+
+// What the question for a coordinate's unit answers: its number, and the unit.
+pub struct Rounded {
+    pub number: u32,
+    pub unit: i32,
 }
 
 // Opens a pool for a screen with so many blocks: 0, or 1 for the screen, 2 for the blocks, 3 for a slice that is too short.
@@ -236,4 +244,18 @@ pub fn corner_touches(screen: Screen, tile: Tile, shape: Shape) -> Answered
         number: 0,
         touches: touch::corner_touches(shape, rectangle),
     }
+}
+
+// The unit of a coordinate in pixels: 0 and the unit, or 6 for what is infinite or no number, 7 for a unit out of range.
+pub fn unit(v: f32) -> Rounded
+    ensures { λ r. ⌜ UnitSays v r ⌝ }
+{
+    let snapped = snap::snap(v);
+    let Snapped::Unit(unit) = snapped else {
+        return Rounded {
+            number: snap::number(snapped),
+            unit: 0,
+        };
+    };
+    Rounded { number: 0, unit }
 }

@@ -12,6 +12,7 @@ use Rattle.calls.specs.declared.Binned.{Binned}
 use Rattle.calls.specs.declared.Released.{Released}
 use Rattle.calls.specs.declared.Found.{Found}
 use Rattle.calls.specs.declared.Answered.{Answered}
+use Rattle.calls.specs.declared.Rounded.{Rounded}
 
 abbrev pub screen : (width height s : ℕ) → Screen
 screen width height s = record { width = width; height = height; s = s }
@@ -30,6 +31,9 @@ released number blocks = record { number = number; blocks = blocks }
 
 abbrev pub found : (number id : ℕ) → Found
 found number id = record { number = number; id = id }
+
+abbrev pub rounded : (number : ℕ) (unit : ℤ) → Rounded
+rounded number unit = record { number = number; unit = unit }
 
 -- an answer with this number, whose yes is written as 1 and whose no as 0, is one that Says allows
 pub record Told (Says : Answered → Type 0) (number touches : ℕ) : Type 0 where

@@ -11,7 +11,8 @@ ghost use Rattle.pool.specs.Opening.{OpenSays};
 ghost use Rattle.shape.specs.declared.Shape.the-variants.{Point, Line, Triangle};
 ghost use Rattle.calls.specs.Tables.{AuditSays, BinSays, BinPixelsSays, ReadSays, ReleaseSays};
 ghost use Rattle.calls.specs.Questions.{BoxSays, CornerSays};
-ghost use Rattle.capi.specs.Faces.{screen, vertex, pixel, binned, released, found, Told};
+ghost use Rattle.calls.specs.Units.{UnitSays};
+ghost use Rattle.capi.specs.Faces.{screen, vertex, pixel, binned, released, found, rounded, Told};
 
 // Opens a pool: 0, or 1, 2, 3 in that order.
 #[no_mangle]
@@ -389,4 +390,15 @@ pub extern "C" fn flourscoop_corner_triangle(
         ),
         touches,
     )
+}
+
+// The unit of a coordinate in pixels: 0, or 6, 7.
+#[no_mangle]
+pub extern "C" fn flourscoop_unit(v: f32, unit: &mut i32) -> u32
+    ensures { λ r. ⌜ UnitSays v (rounded r (now (unit .exit))) ⌝ }
+{
+    let answer = calls::unit(v);
+    let value = answer.unit;
+    *unit = value;
+    answer.number
 }

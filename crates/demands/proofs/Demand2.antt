@@ -70,6 +70,12 @@ module _ {p : List ℕ} {shape : Shape} {id : ℕ} {a : Binned} {q : List ℕ} w
 -- ---- bin of a shape in units
 
 module _ {p : List ℕ} {shape : Shape} {id : ℕ} {a : Binned} {q : List ℕ} where
+  bin-not-damaged : Sound edition p → BinSays p shape id a q → a .number ≢ 4
+  bin-not-damaged S (BinSays.damaged n e f) z = n S
+  bin-not-damaged S (BinSays.bad-id S′ i e f) z = other e z (omega arith)
+  bin-not-damaged S (BinSays.out-of-range S′ i o e f) z = other e z (omega arith)
+  bin-not-damaged S (BinSays.placed S′ i o w) z = place-other w z (omega arith) (omega arith)
+
   bin-bad-id : BinSays p shape id a q → a .number ≡ 5 → edition .limit ≤ id
   bin-bad-id (BinSays.damaged n e f) z = other e z (omega arith)
   bin-bad-id (BinSays.bad-id S i e f) z = i
@@ -106,6 +112,7 @@ module _ {p : List ℕ} {shape : Shape} {id : ℕ} {a : Binned} {q : List ℕ} w
 
   pub demand-2-bin : Sound edition p → BinSays p shape id a q → Demand2Bin p shape id a q
   demand-2-bin S B = record {
+    not-damaged = bin-not-damaged S B;
     bad-id = (bin-bad-id B, λ h. bin-number B (BinSays.bad-id S h refl refl));
     out-of-range = (bin-out-of-range B, λ h. bin-number B (BinSays.out-of-range S (h .0) (h .1) refl refl));
     no-room = (
@@ -129,6 +136,12 @@ offence-other shape {C} {a} {m} {n} o e z n6 n7 =
     ⊎-elim (λ (s : m ≡ 6). other e z (λ u. n6 (sym s ∙ u))) (λ (s : m ≡ 7). other e z (λ u. n7 (sym s ∙ u))) (refused-six-or-seven shape o)
 
 module _ {p : List ℕ} {shape : PixelShape} {id : ℕ} {a : Binned} {q : List ℕ} where
+  pixels-not-damaged : Sound edition p → BinPixelsSays p shape id a q → a .number ≢ 4
+  pixels-not-damaged S (BinPixelsSays.damaged n e f) z = n S
+  pixels-not-damaged S (BinPixelsSays.bad-id S′ i e f) z = other e z (omega arith)
+  pixels-not-damaged S (BinPixelsSays.offence S′ i n o e f) z = offence-other shape o e z (omega arith) (omega arith)
+  pixels-not-damaged S (BinPixelsSays.placed S′ i whole o w) z = place-other w z (omega arith) (omega arith)
+
   pixels-bad-id : BinPixelsSays p shape id a q → a .number ≡ 5 → edition .limit ≤ id
   pixels-bad-id (BinPixelsSays.damaged n e f) z = other e z (omega arith)
   pixels-bad-id (BinPixelsSays.bad-id S i e f) z = i
@@ -170,6 +183,7 @@ module _ {p : List ℕ} {shape : PixelShape} {id : ℕ} {a : Binned} {q : List �
 
   pub demand-2-pixels : Sound edition p → BinPixelsSays p shape id a q → Demand2Pixels p shape id a q
   demand-2-pixels S B = record {
+    not-damaged = pixels-not-damaged S B;
     bad-id = (pixels-bad-id B, λ h. pixels-number B (BinPixelsSays.bad-id S h refl refl));
     offence = λ n s. (pixels-offence S B n s, λ h. pixels-number B (BinPixelsSays.offence S (h .0) n (h .1) refl refl));
     no-room = (

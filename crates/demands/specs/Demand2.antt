@@ -51,8 +51,9 @@ pub record Listed (p : List ℕ) (shape : Shape) (id : ℕ) (a : Binned) (q : Li
   pub tiles : (ts : List ℕ) × TouchedTiles (screenOf p) shape ts × (a .tiles ≡ length ts)
   pub blocks : freeIn q + a .blocks ≡ freeIn p
 
--- each number is given exactly where its cause applies and no earlier one
+-- each number is given exactly where its cause applies and no earlier one; 4 is never given, as the pool is sound
 pub record Demand2Bin (p : List ℕ) (shape : Shape) (id : ℕ) (a : Binned) (q : List ℕ) : Type 0 where
+  pub not-damaged : a .number ≢ 4
   pub bad-id : (a .number ≡ 5) ↔ (edition .limit ≤ id)
   pub out-of-range : (a .number ≡ 7) ↔ ((id < edition .limit) × (InRange shape → ⊥))
   pub no-room : (a .number ≡ 8) ↔ NoRoom p shape id
@@ -62,6 +63,7 @@ pub record Demand2Bin (p : List ℕ) (shape : Shape) (id : ℕ) (a : Binned) (q 
 
 -- the same of a shape in pixels, by the shape in units that it is
 pub record Demand2Pixels (p : List ℕ) (shape : PixelShape) (id : ℕ) (a : Binned) (q : List ℕ) : Type 0 where
+  pub not-damaged : a .number ≢ 4
   pub bad-id : (a .number ≡ 5) ↔ (edition .limit ≤ id)
   pub offence : (n : ℕ) → (n ≡ 6) ⊎ (n ≡ 7) → (a .number ≡ n) ↔ ((id < edition .limit) × (shapeOf shape ≡ SnappedShape.Refused n))
   pub no-room : (a .number ≡ 8) ↔ ((whole : Shape) × (shapeOf shape ≡ SnappedShape.Whole whole) × NoRoom p whole id)

@@ -121,14 +121,6 @@ pub fn row_of(screen: Screen, tile: Tile) -> u32
     number / columns_of(screen)
 }
 
-// The tile in a column and a row, among `columns` columns.
-pub fn tile_at(columns: u32, column: u32, row: u32) -> Tile
-    requires { ⌜ (column < 4096) × (row < 4096) × (columns ≤ 4096) ⌝ }
-    ensures { λ r. ⌜ r .0 ≡ row * columns + column ⌝ }
-{
-    Tile(row * columns + column)
-}
-
 // T, the side of a tile in units.
 fn side_of(s: u32) -> u32
     requires { ⌜ s ≤ 6 ⌝ }

@@ -1,3 +1,4 @@
 pub mod Lists
 pub mod Touched
+pub mod Exists
 pub mod Grid

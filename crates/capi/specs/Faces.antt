@@ -8,11 +8,11 @@ use lib.Ieee.{Float}
 use Rattle.screen.specs.declared.Screen.{Screen}
 use Rattle.shape.specs.declared.Vertex.{Vertex}
 use Rattle.snap.specs.declared.PixelVertex.{PixelVertex}
+use Rattle.calls.specs.declared.Rounded.{Rounded}
 use Rattle.calls.specs.declared.Binned.{Binned}
 use Rattle.calls.specs.declared.Released.{Released}
 use Rattle.calls.specs.declared.Found.{Found}
 use Rattle.calls.specs.declared.Answered.{Answered}
-use Rattle.calls.specs.declared.Rounded.{Rounded}
 
 abbrev pub screen : (width height s : ℕ) → Screen
 screen width height s = record { width = width; height = height; s = s }
@@ -23,6 +23,9 @@ vertex x y = record { x = x; y = y }
 abbrev pub pixel : (x y : Float) → PixelVertex
 pixel x y = record { x = x; y = y }
 
+abbrev pub rounded : (number : ℕ) (unit : ℤ) → Rounded
+rounded number unit = record { number = number; unit = unit }
+
 abbrev pub binned : (number tiles blocks : ℕ) → Binned
 binned number tiles blocks = record { number = number; tiles = tiles; blocks = blocks }
 
@@ -31,9 +34,6 @@ released number blocks = record { number = number; blocks = blocks }
 
 abbrev pub found : (number id : ℕ) → Found
 found number id = record { number = number; id = id }
-
-abbrev pub rounded : (number : ℕ) (unit : ℤ) → Rounded
-rounded number unit = record { number = number; unit = unit }
 
 -- an answer with this number, whose yes is written as 1 and whose no as 0, is one that Says allows
 pub record Told (Says : Answered → Type 0) (number touches : ℕ) : Type 0 where

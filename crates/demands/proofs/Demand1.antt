@@ -4,7 +4,6 @@ use mathlib.Core.Logic.{_≢_, _⊎_, inl, inr, ⊎-elim}
 use mathlib.Core.List.{List, [], _∷_}
 use Prim.Native.Nat.{ℕ, _<_}
 use native.Mathlib.Omega.{arith}
-use lib.Ieee.{Float}
 use Rattle.screen.specs.declared.Screen.{Screen}
 use Rattle.screen.specs.Screen.{tiles}
 use Rattle.shape.specs.declared.Shape.{Shape}
@@ -19,13 +18,11 @@ use Rattle.calls.specs.declared.Binned.{Binned}
 use Rattle.calls.specs.declared.Released.{Released}
 use Rattle.calls.specs.declared.Found.{Found}
 use Rattle.calls.specs.declared.Answered.{Answered}
-use Rattle.calls.specs.declared.Rounded.{Rounded}
 use Rattle.pool.specs.Opening.{OpenSays}
 use Rattle.calls.specs.Tables.{AuditSays, PlaceSays, BinSays, BinPixelsSays, ReadSays, ReleaseSays, refusedBin}
 use Rattle.calls.specs.Questions.{RefusedWith, TouchSays, BoxSays, CornerSays}
-use Rattle.calls.specs.Units.{UnitSays}
 use Rattle.demands.specs.History.{Entry, binned, binned-pixels, found, released, numberOf, Step}
-use Rattle.demands.specs.Demand1.{Among, refusals, RestZero, Outside, Demand1, Demand1Open, Demand1Audit, Demand1Question, Demand1Unit}
+use Rattle.demands.specs.Demand1.{Among, refusals, RestZero, Outside, Demand1, Demand1Open, Demand1Audit, Demand1Question}
 use Rattle.demands.proofs.Accepted.{bin-appends, same-outside, kept-outside}
 
 -- ---- a refusal, and an accepted call
@@ -125,12 +122,6 @@ demand-1-box = question-1
 
 pub demand-1-corner : {d : Screen} {t : ℕ} {shape : Shape} {a : Answered} → CornerSays d t shape a → Demand1Question a
 demand-1-corner = question-1
-
-pub demand-1-unit : {v : Float} {a : Rounded} → UnitSays v a → Demand1Unit a
-demand-1-unit (UnitSays.not-finite n e) = record { number-is = inr (inl (ap (λ (b : Rounded). b .number) e)); refused = λ _. ap (λ (b : Rounded). b .unit) e }
-demand-1-unit (UnitSays.out-of-range z u o e) =
-    record { number-is = inr (inr (inl (ap (λ (b : Rounded). b .number) e))); refused = λ _. ap (λ (b : Rounded). b .unit) e }
-demand-1-unit (UnitSays.done z u i e) = let zero = ap (λ (b : Rounded). b .number) e in record { number-is = inl zero; refused = λ ne. absurd (ne zero) }
 
 -- ---- every call of a history
 

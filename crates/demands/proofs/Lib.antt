@@ -1,5 +1,6 @@
 pub mod Touched
 pub mod OneOutcome
+pub mod Unit
 pub mod Accepted
 pub mod Demand1
 pub mod Demand2

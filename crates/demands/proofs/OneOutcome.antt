@@ -1,32 +1,23 @@
 -- Each public contract admits one outcome only: two that meet it are equal, in every field of the answer and in every word that is left.
-use mathlib.Core.Path.{_≡_, refl, ap, subst}
-use mathlib.Core.Bool.{Bool, true, false, not}
+use mathlib.Core.Path.{_≡_, refl, ap}
+use mathlib.Core.Bool.{Bool, true, false}
 use mathlib.Core.List.{List}
 use Prim.Native.Nat.{ℕ}
 use native.Mathlib.Omega.{arith}
-use lib.Dec.{T}
-use lib.IntN.{ℤ}
-use lib.Ieee.{Float, nan, inf, fin}
-use lib.Ieee.Scale.{finite}
 use Rattle.numbers.specs.Says.{Says}
 use Rattle.screen.specs.declared.Screen.{Screen}
 use Rattle.shape.specs.declared.Shape.{Shape}
-use Rattle.shape.specs.Shape.{InUnits}
 use Rattle.snap.specs.declared.PixelShape.{PixelShape}
 use Rattle.snap.specs.declared.SnappedShape.{SnappedShape}
-use Rattle.snap.specs.Unit.{HasUnit}
-use Rattle.snap.proofs.Unit.{one-unit}
 use Rattle.pool.specs.Words.{edition}
 use Rattle.lists.specs.Appending.{need}
 use Rattle.calls.specs.declared.Binned.{Binned}
 use Rattle.calls.specs.declared.Released.{Released}
 use Rattle.calls.specs.declared.Found.{Found}
 use Rattle.calls.specs.declared.Answered.{Answered}
-use Rattle.calls.specs.declared.Rounded.{Rounded}
 use Rattle.pool.specs.Opening.{OpenSays}
 use Rattle.calls.specs.Tables.{AuditSays, PlaceSays, BinSays, BinPixelsSays, ReadSays, ReleaseSays}
 use Rattle.calls.specs.Questions.{RefusedWith, InOrder, TouchSays, BoxSays, CornerSays}
-use Rattle.calls.specs.Units.{UnitSays}
 use Rattle.walk.proofs.Touched.{touched-tiles-unique}
 
 pub open-one-outcome : {p : List ℕ} {d : Screen} {blocks a b : ℕ} {q r : List ℕ} → OpenSays edition p d blocks a q → OpenSays edition p d blocks b r → (a ≡ b) × (q ≡ r)
@@ -171,26 +162,3 @@ box-one-outcome = touch-one-outcome
 
 pub corner-one-outcome : {d : Screen} {t : ℕ} {shape : Shape} {a b : Answered} → CornerSays d t shape a → CornerSays d t shape b → a ≡ b
 corner-one-outcome = touch-one-outcome
-
--- ---- the unit of a coordinate
-
--- what has a unit is finite
-unit-or-not-finite : (v : Float) (z : ℤ) → HasUnit v z → T (not (finite v)) → ⊥
-unit-or-not-finite nan z u n = u
-unit-or-not-finite (inf s) z u n = u
-unit-or-not-finite (fin s m e) z u n = n
-
--- one coordinate has one unit, in range or out of it
-in-range-or-not : (v : Float) (z y : ℤ) → HasUnit v z → HasUnit v y → InUnits z → (InUnits y → ⊥) → ⊥
-in-range-or-not v z y u w i o = o (subst InUnits (one-unit v z y u w) i)
-
-pub unit-one-outcome : {v : Float} {a b : Rounded} → UnitSays v a → UnitSays v b → a ≡ b
-unit-one-outcome (UnitSays.not-finite n e) (UnitSays.not-finite n′ e′) = cc
-unit-one-outcome {v} (UnitSays.not-finite n e) (UnitSays.out-of-range z′ u′ o′ e′) = absurd (unit-or-not-finite v z′ u′ n)
-unit-one-outcome {v} (UnitSays.not-finite n e) (UnitSays.done z′ u′ i′ e′) = absurd (unit-or-not-finite v z′ u′ n)
-unit-one-outcome {v} (UnitSays.out-of-range z u o e) (UnitSays.not-finite n′ e′) = absurd (unit-or-not-finite v z u n′)
-unit-one-outcome (UnitSays.out-of-range z u o e) (UnitSays.out-of-range z′ u′ o′ e′) = cc
-unit-one-outcome {v} (UnitSays.out-of-range z u o e) (UnitSays.done z′ u′ i′ e′) = absurd (in-range-or-not v z′ z u′ u i′ o)
-unit-one-outcome {v} (UnitSays.done z u i e) (UnitSays.not-finite n′ e′) = absurd (unit-or-not-finite v z u n′)
-unit-one-outcome {v} (UnitSays.done z u i e) (UnitSays.out-of-range z′ u′ o′ e′) = absurd (in-range-or-not v z z′ u u′ i o′)
-unit-one-outcome {v} (UnitSays.done z u i e) (UnitSays.done z′ u′ i′ e′) = let same = one-unit v z z′ u u′ in cc

@@ -7,13 +7,11 @@ use mathlib.Core.Bool.{false}
 use mathlib.Core.List.{List, [], _∷_}
 use Prim.Native.Nat.{ℕ, _≤_}
 use lib.ListN.{length, getD}
-use lib.IntN.{pos}
 use Rattle.screen.specs.declared.Screen.{Screen}
 use Rattle.screen.specs.Screen.{tiles}
 use Rattle.pool.specs.Words.{edition, room}
 use Rattle.pool.specs.Sound.{tilesOf, blocksOf}
 use Rattle.calls.specs.declared.Answered.{Answered}
-use Rattle.calls.specs.declared.Rounded.{Rounded}
 use Rattle.demands.specs.History.{Entry, binned, binned-pixels, found, released, numberOf}
 
 abbrev pub Among : ℕ → List ℕ → Type 0
@@ -59,8 +57,3 @@ Demand1Audit number = (number ≡ 0) ⊎ Among number (4 ∷ [])
 pub record Demand1Question (a : Answered) : Type 0 where
   pub number-is : (a .number ≡ 0) ⊎ Among (a .number) (1 ∷ 9 ∷ 7 ∷ [])
   pub refused : a .number ≢ 0 → a .touches ≡ false
-
--- of the question for a coordinate's unit, which is lent no words either
-pub record Demand1Unit (a : Rounded) : Type 0 where
-  pub number-is : (a .number ≡ 0) ⊎ Among (a .number) (6 ∷ 7 ∷ [])
-  pub refused : a .number ≢ 0 → a .unit ≡ pos 0

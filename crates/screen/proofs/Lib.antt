@@ -1,3 +1,3 @@
+pub mod Spans
 pub mod Sizes
 pub mod Laws
-pub mod Spans

@@ -4,12 +4,13 @@ use mathlib.Core.Logic.{_≢_, _⊎_, inl, inr, ⊎-elim}
 use mathlib.Core.List.{List, [], _∷_}
 use Prim.Native.Nat.{ℕ, _%_, _≤_, _<_}
 use native.Mathlib.Omega.{arith}
-use lib.ListN.{length}
+use lib.ListN.{length, take}
 use Rattle.numbers.proofs.Ceil.{lt-or-ge, eq-or-ne}
 use Rattle.pool.specs.Words.{edition}
 use Rattle.pool.specs.Sound.{Sound}
 use Rattle.lister.specs.Bytes.{wordsOf}
-use Rattle.lister.specs.Answer.{WordsSay, BytesSay}
+use Rattle.lister.specs.declared.input.Input.{Input}
+use Rattle.lister.specs.Answer.{WordsSay, BytesSay, InputSays}
 
 -- two lists are equal or not
 same-list : (s t : List ℕ) → (s ≡ t) ⊎ (s ≢ t)
@@ -38,3 +39,7 @@ one-text bytes s t A B =
     (λ (o : length bytes % 4 ≢ 0). A .odd l o ∙ sym (B .odd l o))
     (eq-or-ne (length bytes % 4) 0))
     (lt-or-ge 65536 (length bytes))
+
+pub one-text-input : (buffer : List ℕ) (input : Input) (s t : List ℕ) → InputSays buffer input s → InputSays buffer input t → s ≡ t
+one-text-input buffer (Input.Bytes n) s t A B = one-text (take n buffer) s t A B
+one-text-input buffer Input.Failed s t A B = A ∙ sym B

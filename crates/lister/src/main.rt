@@ -1,19 +1,22 @@
 // Lists a pool of little-endian words, read from standard input: a line for the screen, and one for each tile with entries. `specs/Answer.antt` says what is
 // written for any bytes.
 mod ids;
+mod input;
 mod listing;
 mod text;
 mod words;
 
-ghost use Prim.Native.Nat.{_≤_};
+ghost use Prim.Native.Nat.{_≤_, _<_};
 ghost use lib.ListN.{length, take};
 ghost use Rattle.io.specs.Counts.{Counts};
-ghost use Rattle.lister.specs.Answer.{WordsSay, BytesSay};
+ghost use Rattle.lister.specs.Answer.{WordsSay, BytesSay, Within, InputSays};
+use crate::input::Input;
+use crate::input::read_input;
 use crate::listing::put_listing;
 use crate::text::put_text;
 use crate::words::words_from;
 use audit::Audited;
-use libc::STDIN_FILENO;
+use libc::STDERR_FILENO;
 use libc::STDOUT_FILENO;
 
 // The longest input that is listed, in bytes and in words.
@@ -54,11 +57,25 @@ fn list_bytes(bytes: &[u8], out: &mut [u8]) -> usize
     list_words(&words[..count], out)
 }
 
-// Writes the text for what it reads.
+// Puts the text for what was read at the start of `out`, and answers its length. The buffer is longer than the longest input, so that a longer one is seen.
+fn list_input(buffer: &[u8], input: Input, out: &mut [u8]) -> usize
+    requires { ⌜ (65536 < length (now buffer)) × (Within input (now buffer)) × (150000 ≤ length (now out)) ⌝ }
+    ensures within { λ r. ⌜ Counts r (now (out .exit)) ⌝ }
+    ensures text { λ r. ⌜ InputSays (now (buffer .entry)) input (take r (now (out .exit))) ⌝ }
+{
+    let Input::Bytes(count) = input else {
+        return put_text(b"damaged\n", out, 0);
+    };
+    list_bytes(&buffer[..count], out)
+}
+
+// Writes the text for what it reads. Where that fails, a line on standard error says so.
 fn main() {
-    let mut bytes = [0u8; MOST_BYTES + 1];
-    let count = io::read_full(STDIN_FILENO, &mut bytes);
+    let mut buffer = [0u8; MOST_BYTES + 1];
+    let input = read_input(&mut buffer);
     let mut out = [0u8; MOST_TEXT];
-    let end = list_bytes(&bytes[..count], &mut out);
-    io::write_all(STDOUT_FILENO, &out[..end]);
+    let end = list_input(&buffer, input, &mut out);
+    if !io::write_all(STDOUT_FILENO, &out[..end]) {
+        io::write_all(STDERR_FILENO, b"lister: the listing was not written to its end\n");
+    }
 }

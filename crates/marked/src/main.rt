@@ -111,6 +111,18 @@ fn write_header(pool: &[u32]) {
     write(b"\n");
 }
 
+// Opens a pool with two blocks. Where that is refused, writes the number and answers false.
+fn opens(pool: &mut [u32], screen: Screen) -> bool {
+    let number = calls::open(pool, screen, 2);
+    if number == 0 {
+        return true;
+    }
+    write(b"open ");
+    write_number(number);
+    write(b"\n");
+    false
+}
+
 fn write_bin(pool: &mut [u32], name: &[u8], shape: Shape, id: u32) {
     let binned = calls::bin(pool, shape, id);
     write(name);
@@ -161,9 +173,15 @@ fn pool_case() {
     let opened: &mut [u32] = &mut first;
     let before: &mut [u32] = &mut second;
     let pool: &mut [u32] = &mut third;
-    calls::open(opened, screen, 2);
-    calls::open(before, screen, 2);
-    calls::open(pool, screen, 2);
+    if !opens(opened, screen) {
+        return;
+    }
+    if !opens(before, screen) {
+        return;
+    }
+    if !opens(pool, screen) {
+        return;
+    }
     write_header(pool);
     write_bin(pool, b"id 7 at (0, 0)", Shape::Point(at(0, 0)), 7);
     write_bin(

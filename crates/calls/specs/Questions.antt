@@ -32,7 +32,7 @@ abbrev pub QuestionSays : (d : Screen) (t : ℕ) (shape : Shape) → Question �
 QuestionSays d t shape (Asked q) = InOrder d t shape × (q ≡ rectangle d t)
 QuestionSays d t shape (Refused n) = RefusedWith d t shape n
 
--- the answer to a question that is not put
+-- the answer to a question that is not put; the line for `Asked` is never reached, and stands there for the function to be whole
 abbrev pub notAsked : Question → Answered
 notAsked (Asked q) = record { number = 0; touches = false }
 notAsked (Refused n) = record { number = n; touches = false }

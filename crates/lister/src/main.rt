@@ -76,6 +76,9 @@ fn main() {
     let mut out = [0u8; MOST_TEXT];
     let end = list_input(&buffer, input, &mut out);
     if !io::write_all(STDOUT_FILENO, &out[..end]) {
-        io::write_all(STDERR_FILENO, b"lister: the listing was not written to its end\n");
+        io::write_all(
+            STDERR_FILENO,
+            b"lister: the listing was not written to its end\n",
+        );
     }
 }

@@ -49,7 +49,8 @@ abbrev pub timesInAll : (b : ℕ) → State → ℕ
 timesInAll b s = times b (s .free) + timesInTiles b (s .tiles)
 
 -- The blocks of a chain hold a list, `ids` to a block and from the front, with poison in every place after its end; and each block's link leads to
--- the next. word b k is word k of block b.
+-- the next. word b k is word k of block b. Of a list that is longer than the blocks nothing is said past them: only with `TileShows.many` do they hold
+-- all of it.
 abbrev pub Holds : (ids poison : ℕ) (word : ℕ → ℕ → ℕ) (blocks list : List ℕ) → Type 0
 Holds ids poison word [] list = Unit {0}
 Holds ids poison word (b ∷ bs) list =

@@ -16,7 +16,7 @@ use Rattle.touch.specs.Edges.{starts, Clear}
 abbrev pub ClearIn : Screen → RowEdges → ℕ → Type 0
 ClearIn d e column = Clear e (near (d .width) (d .s) column) (far (d .width) (d .s) column)
 
--- r is the first column of the span with P, or a number past its columns where it has none
+-- r is the first column of the span with P, or one past the span where it has none
 pub record First (P : ℕ → Type 0) (span : Span) (r : ℕ) : Type 0 where
   pub from : span .start ≤ r
   pub none : (k : ℕ) → span .start ≤ k → k < r → P k → ⊥

@@ -28,7 +28,7 @@ fn clear_in(screen: Screen, edges: RowEdges, column: u32) -> bool
     touch::clear(edges, left, right)
 }
 
-// The first clear column of a span, or a number past its columns where it has none.
+// The first clear column of a span, or one past the span where it has none.
 fn first_clear(screen: Screen, edges: RowEdges, span: Span) -> u32
     requires { ⌜ (Allowed screen) × (RowEdgesRange edges) × (span .end ≤ columns screen) ⌝ }
     ensures { λ r. ⌜ First (ClearIn screen edges) span r ⌝ }

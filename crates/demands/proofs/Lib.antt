@@ -8,3 +8,4 @@ pub mod Runs
 pub mod Listed
 pub mod Alike
 pub mod Demand3
+pub mod Room

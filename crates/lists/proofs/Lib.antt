@@ -6,6 +6,7 @@ pub mod Counts
 pub mod Several
 pub mod Gives
 pub mod Releases
+pub mod Together
 pub mod Widening
 pub mod Reaches
 pub mod AppendLoop

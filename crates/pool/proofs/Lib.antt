@@ -10,3 +10,4 @@ pub mod Header
 pub mod Rising
 pub mod Written
 pub mod Opening
+pub mod Room

@@ -1,0 +1,198 @@
+-- The words past the room do not matter: the second slice can be answered as the first was, and is then left with the same words in the room; and a contract
+-- admits one outcome only.
+use mathlib.Core.Path.{_≡_, refl, sym, ap, subst, _∙_}
+use mathlib.Core.Logic.{_↔_}
+use mathlib.Core.List.{List, [], _∷_}
+use Prim.Native.Nat.{ℕ, _≤_, _<_}
+use native.Mathlib.Omega.{arith}
+use lib.ListN.{length}
+use Rattle.screen.specs.declared.Screen.{Screen}
+use Rattle.screen.specs.Screen.{tiles}
+use Rattle.shape.specs.declared.Shape.{Shape}
+use Rattle.snap.specs.declared.PixelShape.{PixelShape}
+use Rattle.walk.specs.Touched.{TouchedTiles}
+use Rattle.pool.specs.Words.{edition, room}
+use Rattle.pool.specs.Sound.{Sound, screenOf, tilesOf, blocksOf}
+use Rattle.pool.specs.Lists.{listOf}
+use Rattle.pool.specs.Opening.{opening, OpenSays}
+use Rattle.pool.proofs.Words.{edition-fair}
+use Rattle.pool.proofs.Lists.{listOf-shows}
+use Rattle.pool.proofs.Header.{keeps-tiles, keeps-blocks}
+use Rattle.pool.proofs.Opening.{header-fits, opening-length, opening-tiles, opening-blocks}
+use Rattle.pool.proofs.Room.{Agree, header-agrees, tile-agrees, agree-shows, agree-screen, agree-tiles, agree-room, agree-sound, opening-agrees}
+use Rattle.lists.specs.Appending.{need, appendAll, Distinct}
+use Rattle.lists.specs.Releasing.{release}
+use Rattle.lists.proofs.Counts.{need-shows}
+use Rattle.lists.proofs.Several.{kept-keeps}
+use Rattle.lists.proofs.Releases.{release-releases}
+use Rattle.lists.proofs.AppendLoop.{need-kept}
+use Rattle.lists.proofs.Together.{Together, append-all-together, release-together}
+use Rattle.calls.specs.declared.Binned.{Binned}
+use Rattle.calls.specs.declared.Released.{Released}
+use Rattle.calls.specs.declared.Found.{Found}
+use Rattle.calls.specs.Tables.{AuditSays, PlaceSays, BinSays, BinPixelsSays, ReadSays, ReleaseSays, listIn, freeIn}
+use Rattle.calls.proofs.Placing.{touched-distinct}
+use Rattle.demands.specs.History.{Entry, binned, binned-pixels, found, released, Step, Run}
+use Rattle.demands.specs.Room.{roomOf, SameRoom, PastTheRoom, PastTheRoomAudit, PastTheRoomOpen}
+use Rattle.demands.proofs.OneOutcome.{open-one-outcome, audit-one-outcome}
+use Rattle.demands.proofs.Accepted.{bin-appends}
+use Rattle.demands.proofs.Runs.{runs-one-outcome}
+
+-- ---- two slices with the same room
+
+agree : {p w : List ℕ} → SameRoom p w → Agree edition (tilesOf p) (blocksOf p) p w
+agree S = record { words = λ i h. S .words i (omega arith) }
+
+same-sound : {p w : List ℕ} → SameRoom p w → Sound edition p → Sound edition w
+same-sound S P = agree-sound edition-fair (agree S) (S .long .0 (P .opened .long)) P
+
+same-sym : {p w : List ℕ} → SameRoom p w → SameRoom w p
+same-sym {p} {w} S =
+    let e : roomOf w ≡ roomOf p = agree-room edition-fair (agree S) in
+    record { words = λ i h. sym (S .words i (omega arith)); long = rw e (S .long .1, S .long .0) }
+
+-- it is the room of T tiles and N blocks
+same-in : {T N : ℕ} {p w : List ℕ} → tilesOf p ≡ T → blocksOf p ≡ N → Together edition T N p w → SameRoom p w
+same-in {T} {N} {p} {w} et en G =
+    let e : roomOf p ≡ room edition T N = (λ i. room edition (et i) (en i)) in
+    record { words = λ i h. G .agree .words i (omega arith); long = omega arith }
+
+-- ---- the calls, row by row
+
+-- the second slice is answered so too, and is left with the words of q in the room
+abbrev Follows : (Says : List ℕ → Type 0) (q : List ℕ) → Type 0
+Follows Says q = (v : List ℕ) × Says v × SameRoom q v
+
+module _ {p w : List ℕ} (S : SameRoom p w) where
+  sound : Sound edition p → Sound edition w
+  sound = same-sound S
+
+  unsound : (Sound edition p → ⊥) → Sound edition w → ⊥
+  unsound n P = n (same-sound (same-sym S) P)
+
+  tiles-same : tilesOf w ≡ tilesOf p
+  tiles-same = agree-tiles edition-fair (agree S)
+
+  free-same : freeIn w ≡ freeIn p
+  free-same = header-agrees (agree S) 4 (omega arith)
+
+  need-same : {ts : List ℕ} → Distinct (tilesOf p) ts → need edition w ts ≡ need edition p ts
+  need-same {ts} D = need-kept edition p w ts (λ u h. tile-agrees (agree S) u 0 (D .below u h) (omega arith))
+
+  touched-same : {shape : Shape} {ts : List ℕ} → TouchedTiles (screenOf p) shape ts → TouchedTiles (screenOf w) shape ts
+  touched-same {shape} {ts} T = subst (λ (d : Screen). TouchedTiles d shape ts) (sym (agree-screen edition-fair (agree S))) T
+
+  -- where the first slice is left as it was, so is the second
+  unchanged : {q : List ℕ} (Says : List ℕ → Type 0) → q ≡ p → Says w → Follows Says q
+  unchanged Says e h = (w, h, subst (λ (x : List ℕ). SameRoom x w) (sym e) S)
+
+  audit-follows : {a : ℕ} → AuditSays p a → AuditSays w a
+  audit-follows (AuditSays.damaged n e) = AuditSays.damaged (unsound n) e
+  audit-follows (AuditSays.done P e) = AuditSays.done (sound P) e
+
+  module _ (P : Sound edition p) where
+    together : Together edition (tilesOf p) (blocksOf p) p w
+    together = record { long = P .opened .long; long′ = S .long .0 (P .opened .long); agree = agree S }
+
+    lists-same : (t : ℕ) → t < tilesOf p → listIn w t ≡ listIn p t
+    lists-same t ht =
+        ap (λ (T : ℕ). listOf edition T w t) tiles-same
+        ∙ listOf-shows edition-fair (agree-shows (agree S) edition-fair (P .shows)) t ht
+        ∙ sym (listOf-shows edition-fair (P .shows) t ht)
+
+    appended-same : {shape : Shape} {ts : List ℕ} (id : ℕ) → id < edition .limit → TouchedTiles (screenOf p) shape ts → need edition p ts ≤ freeIn p
+        → SameRoom (appendAll edition (tilesOf p) p ts id) (appendAll edition (tilesOf w) w ts id)
+    appended-same {shape} {ts} id i T l =
+        let D = touched-distinct T in
+        let K = kept-keeps (bin-appends P id i T l .kept) in
+        rw tiles-same
+        (same-in (keeps-tiles edition-fair K) (keeps-blocks edition-fair K)
+        (append-all-together edition-fair id i ts together (P .shows) D (omega (arith, need-shows (P .shows) ts (D .below), P .shows .count))))
+
+    released-same : (t : ℕ) → t < tilesOf p → SameRoom (release edition (tilesOf p) p t) (release edition (tilesOf w) w t)
+    released-same t ht =
+        let K = kept-keeps (release-releases edition-fair P t ht .kept) in
+        rw tiles-same (same-in (keeps-tiles edition-fair K) (keeps-blocks edition-fair K) (release-together edition-fair together (P .shows) t ht))
+
+  place-follows : {shape : Shape} {id : ℕ} {a : Binned} {q : List ℕ} → Sound edition p → id < edition .limit → PlaceSays p shape id a q
+      → Follows (λ v. PlaceSays w shape id a v) q
+  place-follows P i (PlaceSays.no-room ts T l e f) =
+      unchanged _ f (PlaceSays.no-room ts (touched-same T) (omega (arith, need-same (touched-distinct T), free-same)) e refl)
+  place-follows {id = id} P i (PlaceSays.done ts T l e f) =
+      let same = need-same (touched-distinct T) in
+      (appendAll edition (tilesOf w) w ts id, PlaceSays.done ts (touched-same T) (omega (arith, free-same)) (rw same e) refl, rw f (appended-same P id i T l))
+
+  bin-follows : {shape : Shape} {id : ℕ} {a : Binned} {q : List ℕ} → BinSays p shape id a q → Follows (λ v. BinSays w shape id a v) q
+  bin-follows (BinSays.damaged n e f) = unchanged _ f (BinSays.damaged (unsound n) e refl)
+  bin-follows (BinSays.bad-id P i e f) = unchanged _ f (BinSays.bad-id (sound P) i e refl)
+  bin-follows (BinSays.out-of-range P i o e f) = unchanged _ f (BinSays.out-of-range (sound P) i o e refl)
+  bin-follows (BinSays.placed P i o k) = let F = place-follows P i k in (F .0, BinSays.placed (sound P) i o (F .1), F .2)
+
+  bin-pixels-follows : {shape : PixelShape} {id : ℕ} {a : Binned} {q : List ℕ} → BinPixelsSays p shape id a q → Follows (λ v. BinPixelsSays w shape id a v) q
+  bin-pixels-follows (BinPixelsSays.damaged n e f) = unchanged _ f (BinPixelsSays.damaged (unsound n) e refl)
+  bin-pixels-follows (BinPixelsSays.bad-id P i e f) = unchanged _ f (BinPixelsSays.bad-id (sound P) i e refl)
+  bin-pixels-follows (BinPixelsSays.offence P i m o e f) = unchanged _ f (BinPixelsSays.offence (sound P) i m o e refl)
+  bin-pixels-follows (BinPixelsSays.placed P i whole o k) = let F = place-follows P i k in (F .0, BinPixelsSays.placed (sound P) i whole o (F .1), F .2)
+
+  read-follows : {t place : ℕ} {a : Found} → ReadSays p t place a → ReadSays w t place a
+  read-follows (ReadSays.damaged n e) = ReadSays.damaged (unsound n) e
+  read-follows (ReadSays.no-tile P h e) = ReadSays.no-tile (sound P) (rw tiles-same h) e
+  read-follows {t} {place} {a} (ReadSays.past P h l e) = ReadSays.past (sound P) (rw tiles-same h) (rw (lists-same P t h) l) e
+  read-follows {t} {place} {a} (ReadSays.done P h l e) = ReadSays.done (sound P) (rw tiles-same h) (rw (lists-same P t h) l) (rw (lists-same P t h) e)
+
+  release-follows : {t : ℕ} {a : Released} {q : List ℕ} → ReleaseSays p t a q → Follows (λ v. ReleaseSays w t a v) q
+  release-follows (ReleaseSays.damaged n e f) = unchanged _ f (ReleaseSays.damaged (unsound n) e refl)
+  release-follows (ReleaseSays.no-tile P h e f) = unchanged _ f (ReleaseSays.no-tile (sound P) (rw tiles-same h) e refl)
+  release-follows {t} {a} {q} (ReleaseSays.done P h e f) =
+      (release edition (tilesOf w) w t, ReleaseSays.done (sound P) (rw tiles-same h) (rw (lists-same P t h) e) refl, rw f (released-same P t h))
+
+  step-follows : (e : Entry) (q : List ℕ) → Step p e q → Follows (λ v. Step w e v) q
+  step-follows (binned shape id a) q k = bin-follows k
+  step-follows (binned-pixels shape id a) q k = bin-pixels-follows k
+  step-follows (found tile place a) q k = unchanged _ (k .1) (read-follows (k .0), refl)
+  step-follows (released tile a) q k = release-follows k
+
+run-follows : {p w : List ℕ} → SameRoom p w → (h : List Entry) (q : List ℕ) → Run p h q → Follows (λ v. Run w h v) q
+run-follows S [] q r = unchanged S _ r refl
+run-follows S (e ∷ h) q r =
+    let F = run-follows S h (r .0) (r .1) in
+    let G = step-follows (F .2) e q (r .2) in
+    (G .0, (F .0, F .1, G .1), G .2)
+
+-- ---- an opening
+
+module _ (p w : List ℕ) (d : Screen) (N : ℕ) (both : (room edition (tiles d) N ≤ length p) ↔ (room edition (tiles d) N ≤ length w)) where
+  openings-same : room edition (tiles d) N ≤ length p → SameRoom (opening edition d N p) (opening edition d N w)
+  openings-same l =
+      let fits = header-fits d N in
+      same-in (opening-tiles edition d N p fits edition-fair) (opening-blocks edition d N p fits edition-fair)
+      (record {
+        long = rw (opening-length edition d N p fits l) l;
+        long′ = rw (opening-length edition d N w fits (both .0 l)) (both .0 l);
+        agree = opening-agrees edition d N fits p w;
+      })
+
+  open-follows : {a : ℕ} {q : List ℕ} → OpenSays edition p d N a q → (v : List ℕ) × OpenSays edition w d N a v × (a ≡ 0 → SameRoom q v)
+  open-follows (OpenSays.bad-screen n e f) = (w, OpenSays.bad-screen n e refl, λ z. absurd (omega arith))
+  open-follows (OpenSays.too-many s m e f) = (w, OpenSays.too-many s m e refl, λ z. absurd (omega arith))
+  open-follows (OpenSays.too-short s m l e f) =
+      let short : room edition (tiles d) N ≤ length w → ⊥ = (λ k. omega (arith, both .1 k)) in
+      (w, OpenSays.too-short s m (omega arith) e refl, λ z. absurd (omega arith))
+  open-follows (OpenSays.done s m l e f) = (opening edition d N w, OpenSays.done s m (both .0 l) e refl, λ z. rw f (openings-same l))
+
+-- ---- the theorems
+
+pub past-the-room : PastTheRoom
+past-the-room p₁ p₂ S h₁ h₂ q₁ q₂ c R₁ R₂ =
+    let F = run-follows S h₁ q₁ R₁ in
+    let one = runs-one-outcome p₂ h₁ h₂ (F .0) q₂ c (F .1) R₂ in
+    (one .0, subst (λ (x : List ℕ). SameRoom q₁ x) (one .1) (F .2))
+
+pub past-the-room-audit : PastTheRoomAudit
+past-the-room-audit p₁ p₂ S a₁ a₂ A₁ A₂ = audit-one-outcome (audit-follows S A₁) A₂
+
+pub past-the-room-open : PastTheRoomOpen
+past-the-room-open p₁ p₂ d N both a₁ a₂ q₁ q₂ O₁ O₂ =
+    let F = open-follows p₁ p₂ d N both O₁ in
+    let one = open-one-outcome (F .1) O₂ in
+    (one .0, λ z. subst (λ (x : List ℕ). SameRoom q₁ x) (one .1) (F .2 z))

@@ -110,7 +110,7 @@ unfolding giveBlock
 give-other {L} A T p b c ne k hk =
     let h4 : 4 < L .header = omega (arith, A .header>) in
     let h5 : 5 < L .header = omega (arith, A .header>) in
-    let lem : L .ids ≤ L .ids = omega arith in
+    let link : L .ids ≤ L .ids = omega arith in
     simp (block-headerSet L T, block-set-other-block L T, fill-other L T)
 
 module _ {L : Layout} {T N : ℕ} (A : Fair L) where

@@ -5,7 +5,7 @@ pub mod Accepted
 pub mod Demand1
 pub mod Demand2
 pub mod Runs
+pub mod Room
 pub mod Listed
 pub mod Alike
 pub mod Demand3
-pub mod Room

@@ -57,7 +57,7 @@ fn wide(count: u32) -> Vec<Shape<Vertex>> {
 }
 
 fn opened() -> Vec<u32> {
-    let mut words = vec![0; room(SCREEN, BLOCKS)];
+    let mut words = vec![0; room(SCREEN, BLOCKS).unwrap()];
     raw::open(&mut words, SCREEN, BLOCKS).done().unwrap();
     words
 }
@@ -166,7 +166,7 @@ fn snap() {
     const CALLS: usize = 100_000;
     let screen = Screen { width: 8, height: 8, s: 3 };
     let prepare = || {
-        let mut words = vec![0; room(screen, 0)];
+        let mut words = vec![0; room(screen, 0).unwrap()];
         raw::open(&mut words, screen, 0).done().unwrap();
         words
     };
@@ -202,7 +202,7 @@ fn main() {
     println!("|---|---|---|---|");
     let open = time(
         1,
-        || vec![1; room(SCREEN, BLOCKS)],
+        || vec![1; room(SCREEN, BLOCKS).unwrap()],
         |words| {
             black_box(raw::open(words, SCREEN, BLOCKS));
         },

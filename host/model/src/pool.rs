@@ -141,6 +141,11 @@ impl State {
         Ok(State::opened(screen, blocks))
     }
 
+    /// How many blocks the longest chain of a tile has.
+    pub fn longest_chain(&self) -> usize {
+        self.tiles.iter().map(|tile| tile.blocks.len()).max().unwrap_or(0)
+    }
+
     /// All words of the pool.
     pub fn words(&self) -> Vec<u32> {
         let Screen { width, height, s } = self.screen;

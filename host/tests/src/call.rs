@@ -4,6 +4,7 @@ use flourscoop::raw::{self, Answer};
 use flourscoop::Shape;
 use model::pool::{room, State};
 use model::screen::Screen;
+use model::touch::{box_meets, question, touches};
 use model::{number, Pixel, Vertex};
 
 use crate::generate;
@@ -51,7 +52,10 @@ impl Call {
                 let shape = shape(random, screen, tile);
                 Call::BinPixels { id: generate::id(random), shape: generate::pixels(random, &shape) }
             }
-            12..=14 => Call::Read { tile: other, place: random.pick(&[0, 0, 1, random.below(40), u32::MAX]) },
+            12..=14 => {
+                let place = random.pick(&[0, 0, 1, random.below(40), random.below(2200), u32::MAX]);
+                Call::Read { tile: other, place }
+            }
             15..=17 => Call::Release { tile: other },
             18 => Call::Audit,
             _ => random
@@ -126,6 +130,29 @@ fn expected<const VALUES: usize>(answer: Result<[u32; VALUES], u32>) -> Outcome 
         Ok(values) => Answer { number: number::DONE, values },
         Err(number) => Answer { number, values: [0; VALUES] },
     })
+}
+
+/// The answers to the question whether a shape touches a tile, by box and by corner.
+pub struct Asked {
+    pub boxed: Result<bool, u32>,
+    pub touched: Result<bool, u32>,
+}
+
+/// Asks the archive and the model both questions, and compares their answers.
+pub fn ask(screen: Screen, tile: u32, shape: &[Vertex]) -> Result<Asked, String> {
+    let [boxed, touched] = [box_meets, touches].map(|way| question(screen, tile, shape, way));
+    let (archive_screen, archive_shape) = (screen_of(screen), shape_of(shape));
+    let ways = [
+        ("box", raw::box_touches(archive_screen, tile, archive_shape), boxed),
+        ("corner", raw::corner_touches(archive_screen, tile, archive_shape), touched),
+    ];
+    for (way, archive, model) in ways {
+        let (archive, model) = (outcome(archive), expected(model.map(|yes| [u32::from(yes)])));
+        if archive != model {
+            return Err(format!("{way}: the archive gives {archive:?}, the model {model:?}"));
+        }
+    }
+    Ok(Asked { boxed, touched })
 }
 
 /// Words lent to the archive, and what the model says of them.

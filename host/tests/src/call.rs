@@ -8,8 +8,8 @@ use model::touch::{box_meets, question, touches};
 use model::{number, Pixel, Vertex};
 
 use crate::generate;
-use crate::hold::smaller_shapes;
 use crate::random::Random;
+use crate::smaller;
 
 /// A call on a pool.
 #[derive(Clone, PartialEq, Eq, Debug)]
@@ -71,11 +71,19 @@ impl Call {
         }
     }
 
+    /// Reads of the longest list: in its middle, at its last place and past it.
+    pub fn reads_of_longest(state: &State) -> [Call; 3] {
+        let entries = |&tile: &u32| state.tiles[tile as usize].ids.len() as u32;
+        let longest = (0..state.screen.tiles()).max_by_key(entries).unwrap_or(0);
+        let entries = entries(&longest);
+        [entries / 2, entries.saturating_sub(1), entries].map(|place| Call::Read { tile: longest, place })
+    }
+
     /// The call with a smaller shape or a lower number.
     pub fn smaller(&self) -> Vec<Call> {
         match self {
             Call::Bin { id, shape } => {
-                smaller_shapes(shape).into_iter().map(|shape| Call::Bin { id: *id, shape }).collect()
+                smaller::shapes(shape).into_iter().map(|shape| Call::Bin { id: *id, shape }).collect()
             }
             Call::BinPixels { id, shape } => {
                 let units = model::unit::units(shape);

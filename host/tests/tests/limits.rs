@@ -226,7 +226,8 @@ fn the_longest_chain_has_2048_blocks() {
 
 #[test]
 fn the_wrapper_s_room_is_what_open_needs() {
-    let extents = [0, 1, 8, 9, 63, 64, 65, 1025, 4095, 4096, 4097, u32::MAX];
+    // 272 by 3,856 pixels with s = 4 are 4,097 tiles
+    let extents = [0, 1, 8, 9, 63, 64, 65, 272, 1025, 3856, 4095, 4096, 4097, u32::MAX];
     let exponents = [0, 2, 3, 4, 5, 6, 7, 31, 32, u32::MAX];
     let screens = extents
         .iter()

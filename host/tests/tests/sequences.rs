@@ -5,8 +5,9 @@ use model::pool::{block_at, room, State, IDS_OF_BLOCK, POISON};
 use model::screen::Screen;
 use tests::call::{Blocks, Call, Slot};
 use tests::generate;
-use tests::hold::{each_smaller, fewer, hold, smaller_screens, Case};
+use tests::hold::{hold, Case};
 use tests::random::Random;
+use tests::smaller::{self, fewer};
 
 /// Calls on two pools for one screen, the second with at least as many blocks as the first.
 #[derive(Clone, Debug)]
@@ -96,13 +97,14 @@ impl Case for Sequence {
         let blocks = [[self.blocks[0] / 2, self.blocks[1]], [self.blocks[0], self.blocks[0]]];
         let with_blocks = |blocks| Sequence { blocks, ..self.clone() };
         let mut all: Vec<_> = fewer(&self.calls).into_iter().map(with_calls).collect();
-        all.extend(smaller_screens(self.screen).into_iter().map(|screen| self.on(screen)));
+        all.extend(smaller::screens(self.screen).into_iter().map(|screen| self.on(screen)));
         all.extend(blocks.into_iter().filter(|&fewer| fewer != self.blocks).map(with_blocks));
-        all.extend(each_smaller(&self.calls, Repeated::smaller).into_iter().map(with_calls));
+        all.extend(smaller::each(&self.calls, Repeated::smaller).into_iter().map(with_calls));
         all
     }
 
-    /// Makes each call on the first pool and, unless that has no room for it (3 or 8), on the second.
+    /// Makes each call on the first pool and, unless that has no room for it (3 or 8), on the second; then reads the longest
+    /// list of each.
     fn run(&self) -> Result<Seen, String> {
         let (mut first, mut second) = (self.slot(0), self.slot(1));
         let mut seen = Seen { numbers: Vec::new(), chain: 0 };
@@ -119,9 +121,12 @@ impl Case for Sequence {
             self.agree(&first, &second).map_err(|wrong| format!("after {call:?}: {wrong}"))?;
             seen.chain = seen.chain.max(second.state.as_ref().map_or(0, State::longest_chain));
         }
-        for slot in [first, second] {
+        for mut slot in [first, second] {
             if State::read(&slot.words).ok() != slot.state {
                 return Err("the words do not say what the model's state is".into());
+            }
+            for read in slot.state.as_ref().map(Call::reads_of_longest).iter().flatten() {
+                slot.call(read).map_err(|wrong| format!("after all calls, {wrong}"))?;
             }
         }
         Ok(seen)

@@ -5,8 +5,9 @@ use model::touch::touches;
 use model::Vertex;
 use tests::call::{ask, Asked};
 use tests::generate;
-use tests::hold::{hold, smaller_screens, smaller_shapes, Case};
+use tests::hold::{hold, Case};
 use tests::random::Random;
+use tests::smaller;
 
 #[derive(Clone, Debug)]
 struct Question {
@@ -39,8 +40,8 @@ impl Case for Question {
         let tiles = [0, self.tile / 2, self.tile.saturating_sub(1)].into_iter().filter(|&tile| tile < self.tile);
         let mut all: Vec<_> = tiles.map(|tile| Question { tile, ..self.clone() }).collect();
         all.extend((self.tile > 0).then(|| self.at_first_tile()));
-        all.extend(smaller_screens(self.screen).into_iter().map(|screen| Question { screen, ..self.clone() }));
-        all.extend(smaller_shapes(&self.shape).into_iter().map(|shape| Question { shape, ..self.clone() }));
+        all.extend(smaller::screens(self.screen).into_iter().map(|screen| Question { screen, ..self.clone() }));
+        all.extend(smaller::shapes(&self.shape).into_iter().map(|shape| Question { shape, ..self.clone() }));
         all
     }
 

@@ -18,11 +18,10 @@
  *   Calls on different pools are independent and may run at the same time. Calls on one pool must not overlap; two calls
  *   of which each only audits or reads may. Calls that take no pool may always run.
  *
- * STACK, in bytes, as measured
- *               bin       audit   read    release   corner   box   open   unit
- *   x86-64      @BINX@    @AUDX@  @READX@ @RELX@ @CORX@ @BOXX@ @OPENX@ @UNITX@
- *   Arm         17,104    2,256   2,304   2,288     240      160   64     not measured
- *   Of bin's, 16,384 list the touched tiles.
+ * STACK, in bytes, as measured; of bin's, 16,384 list the touched tiles
+ *               bin      audit   read    release   corner   box   open   unit
+ *     x86-64    17,232   2,240   2,272   2,272     336      176   64     16
+ *     Arm       17,104   2,256   2,304   2,288     240      160   64     not measured
  *
  * SCREEN AND UNITS
  *   A screen has a width and a height of 1 to 4,096 pixels. A tile is a square of 2^s by 2^s pixels, s from 3 to 6.
@@ -61,8 +60,8 @@
  *     word 11 to 31   0, each                       the other tiles are empty
  *     word 32 to 63   7, 30 times poison, 0         block 0: id 7, and no next block
  *     word 64 to 95   31 times poison, 0            block 1: free, and no next block
- *   Then a point at (256,256) touches tiles 0, 1, 4 and 5, of which three are empty and need a block each: 8, and no word
- *   changes.
+ *   Then id 9 as the point (256,256) touches tiles 0, 1, 4 and 5, of which three are empty and need a block each: it is
+ *   refused with 8, and no word changes.
  */
 #ifndef FLOURSCOOP_H
 #define FLOURSCOOP_H

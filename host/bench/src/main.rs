@@ -16,19 +16,23 @@ const TILES: u32 = 50 * 30;
 const RUNS: usize = 5;
 const ROUNDS: usize = 21;
 
-/// The middle of the times of some rounds, in nanoseconds per call. Each round has its own preparation, which is not
-/// timed.
+/// The time of one round, in nanoseconds per call. Its preparation is not timed.
+fn round<P>(calls: usize, prepare: impl Fn() -> P, run: impl Fn(&mut P)) -> f64 {
+    let mut prepared = prepare();
+    let began = clock::nanoseconds();
+    run(&mut prepared);
+    (clock::nanoseconds() - began) as f64 / calls as f64
+}
+
+fn middle(times: impl Iterator<Item = f64>) -> f64 {
+    let mut times: Vec<f64> = times.collect();
+    times.sort_by(f64::total_cmp);
+    times[times.len() / 2]
+}
+
+/// The middle of the times of all rounds.
 fn time<P>(calls: usize, prepare: impl Fn() -> P, run: impl Fn(&mut P)) -> f64 {
-    let mut rounds: Vec<f64> = (0..ROUNDS)
-        .map(|_| {
-            let mut prepared = prepare();
-            let began = clock::nanoseconds();
-            run(&mut prepared);
-            (clock::nanoseconds() - began) as f64 / calls as f64
-        })
-        .collect();
-    rounds.sort_by(f64::total_cmp);
-    rounds[ROUNDS / 2]
+    middle((0..ROUNDS).map(|_| round(calls, &prepare, &run)))
 }
 
 fn triangle([x1, y1]: [i32; 2], [x2, y2]: [i32; 2], [x3, y3]: [i32; 2]) -> Shape<Vertex> {
@@ -105,18 +109,25 @@ fn calls_on(kind: &str, shapes: &[Shape<Vertex>], less_audit: fn(f64) -> Beside)
     same_lists(&words, &plain);
     let listed: usize = plain.lists.iter().map(Vec::len).sum();
     eprintln!("{kind}: {:.1} tiles each", listed as f64 / shapes.len() as f64);
-    let bin = time(shapes.len(), opened, |words| bin_all(words, shapes));
     let bin_plain = time(shapes.len(), || Plain::open(SCREEN), |plain| bin_all_plain(plain, shapes));
-    // an audit after each bin, over the same pools that the bins see
-    let bin_and_audit = time(shapes.len(), opened, |words| {
-        for (id, &shape) in shapes.iter().enumerate() {
-            black_box(raw::bin(words, id as u32, shape));
-            black_box(raw::audit(words));
-        }
-    });
-    let audit = bin_and_audit - bin;
-    let middle = |tile: u32| plain.lists[tile as usize].len() as u32 / 2;
-    let places: Vec<(u32, u32)> = (0..TILES).map(|tile| (tile, middle(tile))).collect();
+    // bins, and then bins with an audit after each, over the same pools that the bins see
+    let bins: Vec<[f64; 2]> = (0..ROUNDS)
+        .map(|_| {
+            let alone = round(shapes.len(), opened, |words| bin_all(words, shapes));
+            let with_audits = round(shapes.len(), opened, |words| {
+                for (id, &shape) in shapes.iter().enumerate() {
+                    black_box(raw::bin(words, id as u32, shape));
+                    black_box(raw::audit(words));
+                }
+            });
+            [alone, with_audits]
+        })
+        .collect();
+    let bin = middle(bins.iter().map(|[bin, _]| *bin));
+    let audit = middle(bins.iter().map(|[bin, with_audit]| with_audit - bin));
+    let rest = middle(bins.iter().map(|[bin, with_audit]| bin - (with_audit - bin)));
+    let half = |tile: u32| plain.lists[tile as usize].len() as u32 / 2;
+    let places: Vec<(u32, u32)> = (0..TILES).map(|tile| (tile, half(tile))).collect();
     let read = time(
         places.len(),
         || words.clone(),
@@ -155,7 +166,7 @@ fn calls_on(kind: &str, shapes: &[Shape<Vertex>], less_audit: fn(f64) -> Beside)
     );
     vec![
         row(format!("bin, {kind}"), bin, Beside::Plain(bin_plain)),
-        row(format!("bin, {kind}, less its audit"), bin - audit, less_audit(bin_plain)),
+        row(format!("bin, {kind}, less its audit"), rest, less_audit(bin_plain)),
         row(format!("audit, {kind}"), audit, Beside::Nothing),
         row(format!("read, {kind}"), read, Beside::Plain(read_plain)),
         row(format!("release, {kind}"), release, Beside::Plain(release_plain)),

@@ -142,7 +142,7 @@ fn units_are_the_model_s() {
 }
 
 #[test]
-#[ignore = "all 2^32 patterns take minutes"]
+#[ignore = "all 2^32 patterns take half a minute on two cores"]
 fn units_of_all_patterns_are_the_model_s() {
     let threads = thread::available_parallelism().map_or(1, |threads| threads.get() as u64);
     let share = (1u64 << 32).div_ceil(threads);

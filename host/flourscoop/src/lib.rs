@@ -1,7 +1,7 @@
 //! A safe face of libflourscoop.a, the proved tile binner.
 //!
 //! ```
-//! use flourscoop::{room, Pool, Refusal, Screen, Shape, Vertex};
+//! use flourscoop::{room, unit, Pool, Refusal, Screen, Shape, Vertex};
 //!
 //! let screen = Screen { width: 64, height: 32, s: 4 };
 //! let mut words = vec![0; room(screen, 2)?];
@@ -14,6 +14,9 @@
 //! // four tiles meet in this point, three of them are empty, and one block is free
 //! assert_eq!(pool.bin(9, Shape::Point(Vertex { x: 256, y: 256 })), Err(Refusal::NoRoom));
 //! assert_eq!(pool.release(0)?, 1);
+//!
+//! // 1.5 units lie half way between two, of which 2 is even
+//! assert_eq!(unit(0.09375)?, 2);
 //! # Ok::<(), Refusal>(())
 //! ```
 

@@ -11,8 +11,8 @@ impl fmt::Debug for Runs<'_> {
         let mut rest = self.0;
         while let [first, ..] = *rest {
             let run = |step: u32| {
-                let next = |(place, &number): (usize, &u32)| number == first.wrapping_add(place as u32 * step);
-                rest.iter().enumerate().take_while(|&item| next(item)).count()
+                let in_run = |&(place, &number): &(u32, &u32)| first.checked_add(place * step) == Some(number);
+                (0..).zip(rest).take_while(in_run).count()
             };
             let (equal, rising) = (run(0), run(1));
             rest = &rest[equal.max(rising)..];

@@ -185,8 +185,7 @@ pub fn id(random: &Random) -> u32 {
 /// The state of a sound pool, its blocks in any order: most have chains of up to three blocks, one in a hundred has longer
 /// ones, and one in four thousand is as large as a pool can be.
 pub fn state(random: &Random) -> State {
-    let kind = random.below(4000);
-    let (screen, blocks, long) = match kind {
+    let (screen, blocks, long) = match random.below(4000) {
         0 => (full_screen(random), 2048, 70),
         1..=40 => (screen(random, 3), random.below(200), 70),
         _ => (screen(random, 5), random.below(random.pick(&[3, 12, 40])), 3),

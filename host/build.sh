@@ -7,14 +7,12 @@
 # back end, on either processor.
 set -eu
 cd "$(dirname "${BASH_SOURCE[0]}")/.."
+. host/steps.sh
 root=$PWD
 made=$root/target/host
+log=target/host/build.log
 
-say() { printf 'host/build.sh: %s\n' "$*"; }
-stop() { say "$*" >&2; exit 1; }
-
-command -v rt >/dev/null || stop "rt, the command of the Rattle kit, is not on the PATH"
-[ -d crates/capi ] || stop "there is no crates/capi"
+need_kit
 machine=$(uname -m)
 kit=$(dirname "$(dirname "$(rt doc)")")
 tools=$kit/on/$machine/toolchain
@@ -46,23 +44,25 @@ compile_for_arm() {
     # the module names x86-64 as its processor in each function; clang passes over that, and says so
     if ! "$tools/bin/clang" --target=aarch64-unknown-linux-gnu --no-default-config -Wno-override-module \
         -ffunction-sections -fdata-sections -fPIC -O3 -c -x ir "$1" -o "$2" 2>"$made/clang.log"; then
-        cat "$made/clang.log" >&2
-        stop "the kit's clang did not compile the module for Arm"
+        tail -n 30 "$made/clang.log" >&2
+        stop "the kit's clang did not compile the module for Arm; target/host/clang.log has all that it said"
     fi
     grep -v "'x86-64' is not a recognized processor" "$made/clang.log" || true
 }
 
+say "proves capi and what it rests on, and compiles it for $machine; about four minutes the first time, half a minute after that"
 mkdir -p "$made"
 rm -f "$made/libflourscoop.a" "$made/module.bc"
 case $machine in
 x86_64)
-    rt staticlib capi
+    proving "$log" staticlib capi
     cp target/staticlib/libcapi.a "$made/libflourscoop.a"
     ;;
 aarch64)
     [ -x "$tools/bin/clang" ] || stop "the kit at $kit has no clang for $machine"
     keeping_kit "$made/kit" "$made/module.bc"
-    RATTLE_HOME=$made/kit rt staticlib capi
+    export RATTLE_HOME=$made/kit
+    proving "$log" staticlib capi
     [ -f "$made/module.bc" ] || stop "the prover handed no module to clang"
     compile_for_arm "$made/module.bc" "$made/flourscoop.o"
     "$tools/bin/llvm-ar" rcs "$made/libflourscoop.a" "$made/flourscoop.o"

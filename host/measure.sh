@@ -3,21 +3,22 @@
 # a plain Rust binner, stack per call, code size, and what the archive needs from outside.
 set -eu
 cd "$(dirname "${BASH_SOURCE[0]}")"
-. ./need.sh
+. ./steps.sh
 made=../target/host
+need_archive "$made"
 need cc "gcc libc6-dev"
 need cargo cargo-web
 
+say "times, in five runs; about a minute on an idle machine"
 cargo run --offline --locked --quiet --release -p bench
-echo
+say "stack"
 cc -O1 -Wall -Wextra -Iinclude c/stack.c -L"$made" -lflourscoop -o "$made/stack"
 "$made/stack"
-echo
+say "code"
 size -t "$made/libflourscoop.a"
 # on Arm the archive for x86-64 is made on the way
 if [ "$(uname -m)" = aarch64 ]; then
     need llvm-size llvm
     llvm-size ../target/staticlib/libcapi.a
 fi
-echo
 echo "needed from outside:" "$(nm -u "$made/libflourscoop.a" | awk 'NF == 2 { print $2 }' | sort -u | tr '\n' ' ')"

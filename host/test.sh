@@ -1,23 +1,36 @@
 #!/usr/bin/env bash
-# The tests of target/host/libflourscoop.a, which host/build.sh makes: every call from C, the model by itself, and the
-# archive against the model. The last line is 'N passed, M failed'; the exit status is 0 only where M is 0.
+# The tests of target/host/libflourscoop.a, which host/build.sh makes: every call from C and from C++, the model by itself,
+# and the archive against the model. The last line is 'N passed, M failed'; the exit status is 0 only where M is 0.
 set -u
 cd "$(dirname "${BASH_SOURCE[0]}")" || exit 2
-. ./need.sh
+. ./steps.sh
 made=../target/host
-need cc "gcc libc6-dev"
+need_archive "$made"
+need cc "gcc libc6-dev" || exit 1
+need c++ g++ || exit 1
 # rustc 1.85 or newer
-need cargo cargo-web
+need cargo cargo-web || exit 1
 
+strict="-Wall -Wextra -Wconversion -Wsign-conversion -pedantic -Werror"
 passed=0 failed=0
-if cc -std=c99 -Wall -Wextra -Werror -pedantic -Iinclude c/calls.c -L"$made" -lflourscoop -o "$made/calls" && "$made/calls"; then
-    passed=1
-else
-    failed=1
-fi
 
+# Compiles c/calls.c by the compiler $1 with the words after it, runs it, and counts it as one test.
+calls_from() {
+    # shellcheck disable=SC2086
+    if "$@" $strict -Iinclude -c c/calls.c -o "$made/calls.o" && "$1" "$made/calls.o" -L"$made" -lflourscoop -o "$made/calls" && "$made/calls"; then
+        passed=$((passed + 1))
+    else
+        failed=$((failed + 1))
+    fi
+}
+
+say "every call from C and from C++"
+calls_from cc -std=c99
+calls_from c++ -std=c++11 -x c++
+
+say "the archive against the model; about half a minute, and another to compile the first time"
 log=$made/cargo-test.log
-cargo test --offline --locked --no-fail-fast -- --show-output 2>&1 | tee "$log"
+cargo test --offline --locked --no-fail-fast -- --show-output </dev/null 2>&1 | tee "$log"
 ended=${PIPESTATUS[0]}
 passed=$((passed + $(awk '/^test result:/ { n += $4 } END { print n + 0 }' "$log")))
 broken=$(awk '/^test result:/ { n += $6 } END { print n + 0 }' "$log")

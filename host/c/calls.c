@@ -1,4 +1,5 @@
-/* Every call from C, by include/flourscoop.h: document 01's pool case, and one answer and one refusal of each. */
+/* Every call by include/flourscoop.h, from C or C++: document 01's pool case, and one answer and one refusal of each; the
+   header's room, texts and version. */
 #include <math.h>
 #include <stdio.h>
 #include <string.h>
@@ -7,9 +8,15 @@
 
 enum { WIDTH = 64, HEIGHT = 32, S = 4, BLOCKS = 2, WORDS = FLOURSCOOP_ROOM(WIDTH, HEIGHT, S, BLOCKS) };
 
-static uint32_t pool[WORDS], before[WORDS];
+static uint32_t pool[WORDS], kept[WORDS];
 static uint32_t value, other;
 static int passed, failed;
+
+#ifdef __cplusplus
+static const char language[] = "C++";
+#else
+static const char language[] = "C";
+#endif
 
 /* Counts a call with the number and values that it should have given. */
 static void expect(const char *name, uint32_t number, uint32_t wanted, uint32_t wanted_value, uint32_t wanted_other)
@@ -24,32 +31,62 @@ static void expect(const char *name, uint32_t number, uint32_t wanted, uint32_t 
     value = other = 0;
 }
 
-/* Counts a comparison of the pool with the words kept before. */
-static void expect_as_before(const char *name)
+/* Counts something that should hold. */
+static void expect_that(int holds, const char *what)
 {
-    if (memcmp(pool, before, sizeof pool) == 0) {
+    if (holds) {
         passed++;
     } else {
         failed++;
-        printf("%s: the words are not as before\n", name);
+        printf("this does not hold: %s\n", what);
     }
 }
 
-/* The pool case. */
-static void pool_case(void)
+/* Counts a comparison of the pool with the words that are kept. */
+static void expect_kept(const char *what)
+{
+    expect_that(memcmp(pool, kept, sizeof pool) == 0, what);
+}
+
+/* Keeps the words of the pool case as they are after the opening. */
+static void keep_opened(void)
 {
     static const uint32_t header[8] = {64, 32, 4, 2, 2, 1, 8, 32};
+    memset(kept, 0, sizeof kept);
+    memcpy(kept, header, sizeof header);
+    for (size_t place = 0; place < 31; place++)
+        kept[32 + place] = kept[64 + place] = 0xDEADBEEF;
+    kept[63] = 2;
+}
+
+/* Keeps the words of the pool case as they are after the bin of id 7. */
+static void keep_binned(void)
+{
+    static const uint32_t header_and_tile[11] = {64, 32, 4, 2, 1, 2, 8, 32, 1, 1, 1};
+    keep_opened();
+    memcpy(kept, header_and_tile, sizeof header_and_tile);
+    kept[32] = 7;
+    kept[63] = 0;
+}
+
+/* The pool case, word by word. */
+static void pool_case(void)
+{
     expect("open", flourscoop_open(pool, WORDS, WIDTH, HEIGHT, S, BLOCKS), FLOURSCOOP_DONE, 0, 0);
-    memcpy(before, pool, sizeof pool);
-    memcpy(before, header, sizeof header);
-    expect_as_before("header");
+    keep_opened();
+    expect_kept("the words after the opening");
     expect("audit", flourscoop_audit(pool, WORDS), FLOURSCOOP_DONE, 0, 0);
 
     expect("bin (0,0)", flourscoop_bin_point(pool, WORDS, 7, 0, 0, &value, &other), FLOURSCOOP_DONE, 1, 1);
+    keep_binned();
+    expect_kept("the words after the bin");
     expect("read", flourscoop_read(pool, WORDS, 0, 0, &value), FLOURSCOOP_DONE, 7, 0);
     expect("bin (256,256)", flourscoop_bin_point(pool, WORDS, 9, 256, 256, &value, &other), FLOURSCOOP_NO_ROOM, 0, 0);
+    expect_kept("the words after the refusal");
+
     expect("release", flourscoop_release(pool, WORDS, 0, &value), FLOURSCOOP_DONE, 1, 0);
-    expect_as_before("release");
+    keep_opened();
+    expect_kept("the words after the release");
 }
 
 /* The shapes in units and in pixels; each is listed in tile 0 and 1, and released. */
@@ -69,8 +106,23 @@ static void shapes(void)
         /* in this order, so that the free chain rises again */
         expect("release 1", flourscoop_release(pool, WORDS, 1, &value), FLOURSCOOP_DONE, 1, 0);
         expect("release 0", flourscoop_release(pool, WORDS, 0, &value), FLOURSCOOP_DONE, 1, 0);
-        expect_as_before("release");
+        expect_kept("the words after both releases");
     }
+}
+
+/* Units of the table of document 01. */
+static void units(void)
+{
+    int32_t unit = 1;
+    uint32_t number = flourscoop_unit(0.09375f, &unit);
+    expect_that(number == FLOURSCOOP_DONE && unit == 2, "the unit of 0.09375 is 2");
+    number = flourscoop_unit(-16384.03125f, &unit);
+    expect_that(number == FLOURSCOOP_DONE && unit == -262144, "the unit of -16384.03125 is -262,144");
+    number = flourscoop_unit(16383.96875f, &unit);
+    expect_that(number == FLOURSCOOP_OUT_OF_RANGE && unit == 0, "16383.96875 is refused with 7");
+    unit = 1;
+    number = flourscoop_unit(INFINITY, &unit);
+    expect_that(number == FLOURSCOOP_NOT_FINITE && unit == 0, "an infinity is refused with 6");
 }
 
 /* Box and corner of M11's triangle, its long side and its first vertex, at tile 6. */
@@ -98,15 +150,57 @@ static void refusals(void)
     expect("7", flourscoop_bin_point(pool, WORDS, 1, 262144, 0, &value, &other), FLOURSCOOP_OUT_OF_RANGE, 0, 0);
     expect("9", flourscoop_release(pool, WORDS, 8, &value), FLOURSCOOP_NO_TILE, 0, 0);
     expect("10", flourscoop_read(pool, WORDS, 0, 0, &value), FLOURSCOOP_NO_PLACE, 0, 0);
-    expect_as_before("refusals");
+    expect_kept("the words after the refusals");
+}
+
+static size_t room_of_sizes(size_t width, size_t height, size_t s, size_t blocks)
+{
+    return FLOURSCOOP_ROOM(width, height, s, blocks);
+}
+
+static size_t room_of_words(uint32_t width, uint32_t height, uint32_t s, uint32_t blocks)
+{
+    return FLOURSCOOP_ROOM(width, height, s, blocks);
+}
+
+static size_t room_of_ints(int width, int height, int s, int blocks)
+{
+    return FLOURSCOOP_ROOM(width, height, s, blocks);
+}
+
+/* The room is the same for constants and for each type of the arguments. */
+static void rooms(void)
+{
+    expect_that(sizeof pool == 96 * sizeof *pool, "the pool case has 96 words");
+    expect_that(FLOURSCOOP_ROOM(4096, 4096, 6, 2048) == 77832, "the largest pool has 77,832 words");
+    expect_that(room_of_sizes(60, 31, 4, 2) == 96, "a room of size_t");
+    expect_that(room_of_words(60, 31, 4, 2) == 96, "a room of uint32_t");
+    expect_that(room_of_ints(60, 31, 4, 2) == 96, "a room of int");
+}
+
+/* Each number has a text of its own, and so have all others together; the version is said twice alike. */
+static void texts(void)
+{
+    char version[32];
+    for (uint32_t number = 0; number <= FLOURSCOOP_NO_PLACE + 1; number++)
+        for (uint32_t lower = 0; lower < number; lower++)
+            expect_that(strcmp(flourscoop_number_text(lower), flourscoop_number_text(number)) != 0,
+                        flourscoop_number_text(number));
+    expect_that(flourscoop_number_text(UINT32_MAX) == flourscoop_number_text(11), "the text of an unknown number");
+    snprintf(version, sizeof version, "%d.%d.%d", FLOURSCOOP_VERSION_MAJOR, FLOURSCOOP_VERSION_MINOR,
+             FLOURSCOOP_VERSION_PATCH);
+    expect_that(strcmp(version, FLOURSCOOP_VERSION) == 0, "the version and its parts agree");
 }
 
 int main(void)
 {
     pool_case();
     shapes();
+    units();
     questions();
     refusals();
-    printf("C: %d passed, %d failed\n", passed, failed);
+    rooms();
+    texts();
+    printf("%s: %d passed, %d failed\n", language, passed, failed);
     return failed != 0;
 }

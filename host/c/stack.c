@@ -14,6 +14,7 @@ enum { WIDTH = 800, HEIGHT = 480, S = 4, BLOCKS = 2048, WORDS = FLOURSCOOP_ROOM(
 static unsigned char stack[STACK] __attribute__((aligned(16)));
 static uint32_t pool[WORDS];
 static uint32_t number, value, other;
+static int32_t units;
 
 static void nothing(void) { number = FLOURSCOOP_DONE; }
 static void open_pool(void) { number = flourscoop_open(pool, WORDS, WIDTH, HEIGHT, S, BLOCKS); }
@@ -30,6 +31,7 @@ static void pixels_triangle(void)
 {
     number = flourscoop_bin_pixels_triangle(pool, WORDS, 1, 0, 0, 800, 0, 0, 480, &value, &other);
 }
+static void unit(void) { number = flourscoop_unit(-900.3f, &units); }
 static void read_id(void) { number = flourscoop_read(pool, WORDS, 0, 1, &value); }
 static void release(void) { number = flourscoop_release(pool, WORDS, 0, &value); }
 static void box_point(void) { number = flourscoop_box_point(WIDTH, HEIGHT, S, 0, 9, 9, &value); }
@@ -73,6 +75,7 @@ int main(void)
         {"bin_pixels_point", pixels_point},
         {"bin_pixels_line", pixels_line},
         {"bin_pixels_triangle", pixels_triangle},
+        {"unit", unit},
         {"read", read_id},
         {"release", release},
         {"box_point", box_point},

@@ -7,20 +7,21 @@
  *   - It returns one of the numbers below. 0 means done; any other is a refusal. A refusal changes no word of the pool.
  *   - What a pointer at the end of the arguments names is always written: the value on 0, zero on a refusal.
  *   - It always returns. It uses no heap, no global data and no operating system; of the C library it needs memset.
- *   - It neither reads nor writes a word past the pool's room, even where the slice is longer.
+ *   - No call writes a word past the pool's room, and what stands there does not matter to any answer.
  *
  * POINTERS
  *   pool, words   a slice: its first word and how many words it has. Aligned as a uint32_t is, to 4 bytes. Where words is
  *                 0, pool may be null.
- *   the others    each to a uint32_t, not null, not in the pool, no two the same.
+ *   the others    each to one uint32_t or int32_t, not null, not in the pool, no two the same.
  *
  * THREADS AND INTERRUPTS
  *   Calls on different pools are independent and may run at the same time. Calls on one pool must not overlap; two calls
  *   of which each only audits or reads may. Calls that take no pool may always run.
  *
- * STACK, in bytes, measured on Arm (aarch64)
- *   bin 17,104, of which 16,384 list the touched tiles; audit 2,256; read 2,304; release 2,288; corner 240; box 160; open 64.
- *   On x86-64 it was not measured.
+ * STACK, in bytes, as measured; of bin's, 16,384 list the touched tiles
+ *               bin      audit   read    release   corner   box   open   unit
+ *     x86-64    17,232   2,240   2,272   2,272     336      176   64     16
+ *     Arm       17,104   2,256   2,304   2,288     240      160   64     not measured
  *
  * SCREEN AND UNITS
  *   A screen has a width and a height of 1 to 4,096 pixels. A tile is a square of 2^s by 2^s pixels, s from 3 to 6.
@@ -34,8 +35,33 @@
  *   its point.
  *
  * THE POOL
- *   It needs 8 + 3*tiles + 32*blocks words (FLOURSCOOP_ROOM). A block holds 31 ids of one tile. Bin takes a free block for
- *   a tile exactly where its number of entries is a multiple of 31, zero included.
+ *   It needs 8 + 3*tiles + 32*blocks words (FLOURSCOOP_ROOM), which are these. A link is a block's number plus 1, or 0 for
+ *   none. Blocks are numbered from 0.
+ *     word 0, 1, 2    width, height, s
+ *     word 3          blocks, 0 to 2,048
+ *     word 4          free blocks
+ *     word 5          link to the first free block
+ *     word 6          where the tiles start: 8
+ *     word 7          where the blocks start: 8 + 3*tiles
+ *   Then three words for each tile, tile t from word 8 + 3*t: entries, link to its first block, link to its last block.
+ *   An empty tile has 0, 0, 0.
+ *   Then 32 words for each block, block b from word (word 7) + 32*b: 31 places for ids, then the link to the next block.
+ *   A tile with q entries has a chain of q/31 blocks, rounded up; its list is the first q places along the chain. The free
+ *   blocks are a chain as well. Every block stands in one of these chains, once. An id is 0 to 16,777,215. Each place
+ *   without an id, those of free blocks too, holds poison, 0xDEADBEEF.
+ *   Open chains the free blocks in rising order. Bin takes the head of the free chain for a tile exactly where its number of
+ *   entries is a multiple of 31, zero included. Release gives the blocks back in the order of their chain, each poisoned
+ *   and made the new head of the free chain, so that the last of them is taken first.
+ *
+ *   An example: a screen of 64 by 32 with s = 4 has 8 tiles; with 2 blocks it needs 96 words. Opened, and then id 7 binned
+ *   as the point (0,0), which touches tile 0 alone:
+ *     word  0 to  7   64 32 4 2 1 2 8 32            block 1 is the one free block
+ *     word  8 to 10   1 1 1                         tile 0: one entry; block 0 is its first and last
+ *     word 11 to 31   0, each                       the other tiles are empty
+ *     word 32 to 63   7, 30 times poison, 0         block 0: id 7, and no next block
+ *     word 64 to 95   31 times poison, 0            block 1: free, and no next block
+ *   Then id 9 as the point (256,256) touches tiles 0, 1, 4 and 5, of which three are empty and need a block each: it is
+ *   refused with 8, and no word changes.
  */
 #ifndef FLOURSCOOP_H
 #define FLOURSCOOP_H
@@ -47,23 +73,51 @@
 extern "C" {
 #endif
 
-/* The numbers. Where several causes apply, each call's comment has the order in which they are looked for. */
-#define FLOURSCOOP_DONE 0u          /* done */
-#define FLOURSCOOP_SCREEN 1u        /* the screen or s is outside the rules */
-#define FLOURSCOOP_BLOCKS 2u        /* more than 2,048 blocks */
-#define FLOURSCOOP_SHORT 3u         /* the slice is shorter than the room needed */
-#define FLOURSCOOP_UNSOUND 4u       /* the words are not a sound pool */
-#define FLOURSCOOP_ID 5u            /* the id is above 16,777,215 */
-#define FLOURSCOOP_NOT_FINITE 6u    /* a coordinate is infinite or no number */
-#define FLOURSCOOP_OUT_OF_RANGE 7u  /* a coordinate in units is outside -262,144 to 262,143 */
-#define FLOURSCOOP_NO_ROOM 8u       /* the shape needs more blocks than are free */
-#define FLOURSCOOP_NO_TILE 9u       /* there is no such tile */
-#define FLOURSCOOP_NO_PLACE 10u     /* the place is at or past the tile's number of entries */
+/* The version of this header, and of the archive that goes with it. */
+#define FLOURSCOOP_VERSION_MAJOR 0
+#define FLOURSCOOP_VERSION_MINOR 1
+#define FLOURSCOOP_VERSION_PATCH 0
+#define FLOURSCOOP_VERSION "0.1.0"
 
-/* The words that a pool needs, for a screen within the rules; a constant where the arguments are. */
-#define FLOURSCOOP_ACROSS(extent, s) (((extent) + (1u << (s)) - 1u) >> (s))
+/* The numbers; their texts follow. Where several causes apply, each call's comment has the order of looking for them. */
+#define FLOURSCOOP_DONE 0u
+#define FLOURSCOOP_SCREEN 1u
+#define FLOURSCOOP_BLOCKS 2u
+#define FLOURSCOOP_SHORT 3u
+#define FLOURSCOOP_UNSOUND 4u
+#define FLOURSCOOP_ID 5u
+#define FLOURSCOOP_NOT_FINITE 6u
+#define FLOURSCOOP_OUT_OF_RANGE 7u
+#define FLOURSCOOP_NO_ROOM 8u
+#define FLOURSCOOP_NO_TILE 9u
+#define FLOURSCOOP_NO_PLACE 10u
+
+/* What a number means, in a text that is never to be freed. A number that no call returns has one too. */
+static inline const char *flourscoop_number_text(uint32_t number)
+{
+    switch (number) {
+    case FLOURSCOOP_DONE: return "done";
+    case FLOURSCOOP_SCREEN: return "the screen or s is outside the rules";
+    case FLOURSCOOP_BLOCKS: return "more than 2,048 blocks";
+    case FLOURSCOOP_SHORT: return "the slice is shorter than the room needed";
+    case FLOURSCOOP_UNSOUND: return "the words are not a sound pool";
+    case FLOURSCOOP_ID: return "the id is above 16,777,215";
+    case FLOURSCOOP_NOT_FINITE: return "a coordinate is infinite or no number";
+    case FLOURSCOOP_OUT_OF_RANGE: return "a coordinate in units is outside -262,144 to 262,143";
+    case FLOURSCOOP_NO_ROOM: return "the shape needs more blocks than are free";
+    case FLOURSCOOP_NO_TILE: return "there is no such tile";
+    case FLOURSCOOP_NO_PLACE: return "the place is at or past the tile's number of entries";
+    default: return "no call returns this number";
+    }
+}
+
+/*
+ * The words that a pool needs, as a size_t, for a screen within the rules and any whole-number types of the arguments; a
+ * constant expression where they are.
+ */
+#define FLOURSCOOP_ACROSS(extent, s) (((size_t)(extent) + ((size_t)1 << (s)) - 1u) >> (s))
 #define FLOURSCOOP_ROOM(width, height, s, blocks) \
-    (8u + 3u * FLOURSCOOP_ACROSS(width, s) * FLOURSCOOP_ACROSS(height, s) + 32u * (blocks))
+    (8u + 3u * FLOURSCOOP_ACROSS(width, s) * FLOURSCOOP_ACROSS(height, s) + 32u * (size_t)(blocks))
 
 /*
  * Opens a pool: all tiles empty, all blocks free. What stood in the words before does not matter.
@@ -95,8 +149,7 @@ uint32_t flourscoop_bin_triangle(uint32_t *pool, size_t words, uint32_t id,
                                  uint32_t *tiles, uint32_t *blocks);
 
 /*
- * The same with coordinates in pixels. Each goes to the unit nearest to 16 times it, a half to the even one; the range is
- * tested after that.
+ * The same with coordinates in pixels. Each goes to its unit, as by flourscoop_unit.
  * Returns 0; or 4, 5, then the first of 6 and 7 that the vertices in order, x before y, give, then 8.
  */
 uint32_t flourscoop_bin_pixels_point(uint32_t *pool, size_t words, uint32_t id,
@@ -108,6 +161,12 @@ uint32_t flourscoop_bin_pixels_line(uint32_t *pool, size_t words, uint32_t id,
 uint32_t flourscoop_bin_pixels_triangle(uint32_t *pool, size_t words, uint32_t id,
                                         float x1, float y1, float x2, float y2, float x3, float y3,
                                         uint32_t *tiles, uint32_t *blocks);
+
+/*
+ * Writes the unit of a coordinate in pixels: the whole number nearest to 16 times it, a half to the even one.
+ * Returns 0; or 6, 7.
+ */
+uint32_t flourscoop_unit(float v, int32_t *unit);
 
 /*
  * Writes the id at a place of a tile's list. Places count from 0, in the order in which the ids were binned.

@@ -1,31 +1,38 @@
-//! Nanoseconds per call of the archive beside a plain Rust binner, in one run. Screen 800 by 480, s = 4, 2,048 blocks.
+//! Nanoseconds per call of the archive beside a plain Rust binner, in five runs. Screen 800 by 480, s = 4, 2,048 blocks.
 
 mod clock;
 mod plain;
+mod table;
 
 use std::hint::black_box;
 
-use flourscoop::{raw, room, Pixel, Screen, Shape, Vertex};
+use flourscoop::{raw, room, unit, Screen, Shape, Vertex};
 use plain::Plain;
+use table::{Beside, Row};
 
 const SCREEN: Screen = Screen { width: 800, height: 480, s: 4 };
 const BLOCKS: u32 = 2048;
 const TILES: u32 = 50 * 30;
+const RUNS: usize = 5;
 const ROUNDS: usize = 21;
 
-/// The middle of the times of some rounds, in nanoseconds per call. Each round has its own preparation, which is not
-/// timed.
+/// The time of one round, in nanoseconds per call. Its preparation is not timed.
+fn round<P>(calls: usize, prepare: impl Fn() -> P, run: impl Fn(&mut P)) -> f64 {
+    let mut prepared = prepare();
+    let began = clock::nanoseconds();
+    run(&mut prepared);
+    (clock::nanoseconds() - began) as f64 / calls as f64
+}
+
+fn middle(times: impl Iterator<Item = f64>) -> f64 {
+    let mut times: Vec<f64> = times.collect();
+    times.sort_by(f64::total_cmp);
+    times[times.len() / 2]
+}
+
+/// The middle of the times of all rounds.
 fn time<P>(calls: usize, prepare: impl Fn() -> P, run: impl Fn(&mut P)) -> f64 {
-    let mut rounds: Vec<f64> = (0..ROUNDS)
-        .map(|_| {
-            let mut prepared = prepare();
-            let began = clock::nanoseconds();
-            run(&mut prepared);
-            (clock::nanoseconds() - began) as f64 / calls as f64
-        })
-        .collect();
-    rounds.sort_by(f64::total_cmp);
-    rounds[ROUNDS / 2]
+    middle((0..ROUNDS).map(|_| round(calls, &prepare, &run)))
 }
 
 fn triangle([x1, y1]: [i32; 2], [x2, y2]: [i32; 2], [x3, y3]: [i32; 2]) -> Shape<Vertex> {
@@ -57,7 +64,7 @@ fn wide(count: u32) -> Vec<Shape<Vertex>> {
 }
 
 fn opened() -> Vec<u32> {
-    let mut words = vec![0; room(SCREEN, BLOCKS)];
+    let mut words = vec![0; room(SCREEN, BLOCKS).unwrap()];
     raw::open(&mut words, SCREEN, BLOCKS).done().unwrap();
     words
 }
@@ -92,31 +99,35 @@ fn same_lists(words: &[u32], plain: &Plain) {
     }
 }
 
-/// A row of the table: the call, its time, and beside it that of the plain binner and the ratio.
-fn row(call: &str, archive: f64, plain: Option<f64>) {
-    match plain {
-        Some(plain) => println!("| {call} | {archive:.1} | {plain:.1} | {:.1} |", archive / plain),
-        None => println!("| {call} | {archive:.1} | | |"),
-    }
+fn row(call: impl Into<String>, archive: f64, beside: Beside) -> Row {
+    Row { call: call.into(), archive, beside }
 }
 
-fn calls_on(kind: &str, shapes: &[Shape<Vertex>]) {
+/// The calls on a pool with these shapes. `less_audit` says what stands beside a bin less its audit.
+fn calls_on(kind: &str, shapes: &[Shape<Vertex>], less_audit: fn(f64) -> Beside) -> Vec<Row> {
     let (words, plain) = filled(shapes);
     same_lists(&words, &plain);
     let listed: usize = plain.lists.iter().map(Vec::len).sum();
     eprintln!("{kind}: {:.1} tiles each", listed as f64 / shapes.len() as f64);
-    let bin = time(shapes.len(), opened, |words| bin_all(words, shapes));
     let bin_plain = time(shapes.len(), || Plain::open(SCREEN), |plain| bin_all_plain(plain, shapes));
-    // an audit after each bin, over the same pools that the bins see
-    let bin_and_audit = time(shapes.len(), opened, |words| {
-        for (id, &shape) in shapes.iter().enumerate() {
-            black_box(raw::bin(words, id as u32, shape));
-            black_box(raw::audit(words));
-        }
-    });
-    let audit = bin_and_audit - bin;
-    let middle = |tile: u32| plain.lists[tile as usize].len() as u32 / 2;
-    let places: Vec<(u32, u32)> = (0..TILES).map(|tile| (tile, middle(tile))).collect();
+    // bins, and then bins with an audit after each, over the same pools that the bins see
+    let bins: Vec<[f64; 2]> = (0..ROUNDS)
+        .map(|_| {
+            let alone = round(shapes.len(), opened, |words| bin_all(words, shapes));
+            let with_audits = round(shapes.len(), opened, |words| {
+                for (id, &shape) in shapes.iter().enumerate() {
+                    black_box(raw::bin(words, id as u32, shape));
+                    black_box(raw::audit(words));
+                }
+            });
+            [alone, with_audits]
+        })
+        .collect();
+    let bin = middle(bins.iter().map(|[bin, _]| *bin));
+    let audit = middle(bins.iter().map(|[bin, with_audit]| with_audit - bin));
+    let rest = middle(bins.iter().map(|[bin, with_audit]| bin - (with_audit - bin)));
+    let half = |tile: u32| plain.lists[tile as usize].len() as u32 / 2;
+    let places: Vec<(u32, u32)> = (0..TILES).map(|tile| (tile, half(tile))).collect();
     let read = time(
         places.len(),
         || words.clone(),
@@ -153,69 +164,99 @@ fn calls_on(kind: &str, shapes: &[Shape<Vertex>]) {
             }
         },
     );
-    row(&format!("bin, {kind}"), bin, Some(bin_plain));
-    row(&format!("bin, {kind}, less its audit"), bin - audit, Some(bin_plain));
-    row(&format!("audit, {kind}"), audit, None);
-    row(&format!("read, {kind}"), read, Some(read_plain));
-    row(&format!("release, {kind}"), release, Some(release_plain));
+    vec![
+        row(format!("bin, {kind}"), bin, Beside::Plain(bin_plain)),
+        row(format!("bin, {kind}, less its audit"), rest, less_audit(bin_plain)),
+        row(format!("audit, {kind}"), audit, Beside::Nothing),
+        row(format!("read, {kind}"), read, Beside::Plain(read_plain)),
+        row(format!("release, {kind}"), release, Beside::Plain(release_plain)),
+    ]
 }
 
-/// Snap is bin_pixels less bin: of a triangle off the screen, on a pool of one tile and no block, where the rest of bin is
-/// least.
-fn snap() {
-    const CALLS: usize = 100_000;
-    let screen = Screen { width: 8, height: 8, s: 3 };
-    let prepare = || {
-        let mut words = vec![0; room(screen, 0)];
-        raw::open(&mut words, screen, 0).done().unwrap();
-        words
-    };
-    let pixels: [Pixel; 3] = [[-900.3, -800.2], [-700.1, -650.7], [-640.9, -777.77]].map(|[x, y]| Pixel { x, y });
-    let units = plain::snap(pixels).unwrap();
-    let bin = time(CALLS, prepare, |words| {
-        for _ in 0..CALLS {
-            let [a, b, c] = black_box(units);
-            black_box(raw::bin(words, 1, Shape::Triangle(a, b, c)));
-        }
-    });
-    let bin_pixels = time(CALLS, prepare, |words| {
-        for _ in 0..CALLS {
-            let [a, b, c] = black_box(pixels);
-            black_box(raw::bin_pixels(words, 1, Shape::Triangle(a, b, c)));
-        }
-    });
-    let plain = time(
-        CALLS,
-        || (),
-        |()| {
-            for _ in 0..CALLS {
-                black_box(plain::snap(black_box(pixels)));
-            }
-        },
-    );
-    row("bin, a triangle off a screen of one tile, no block", bin, None);
-    row("snap, six coordinates", bin_pixels - bin, Some(plain));
-}
-
-fn main() {
-    println!("| call | archive, ns | plain Rust, ns | ratio |");
-    println!("|---|---|---|---|");
-    let open = time(
+fn opening() -> Row {
+    let archive = time(
         1,
-        || vec![1; room(SCREEN, BLOCKS)],
+        || vec![1; room(SCREEN, BLOCKS).unwrap()],
         |words| {
             black_box(raw::open(words, SCREEN, BLOCKS));
         },
     );
-    let open_plain = time(
+    let plain = time(
         1,
         || (),
         |()| {
             black_box(Plain::open(SCREEN));
         },
     );
-    row("open", open, Some(open_plain));
-    calls_on("1,500 small shapes", &small(1500));
-    calls_on("31 screen-wide shapes", &wide(31));
-    snap();
+    row("open", archive, Beside::Plain(plain))
+}
+
+/// The bin of a triangle off the screen, on a pool of one tile and no block: what a bin takes where there is next to nothing
+/// to audit, to walk or to list.
+fn least_bin() -> Row {
+    const CALLS: usize = 100_000;
+    let screen = Screen { width: 8, height: 8, s: 3 };
+    let prepare = || {
+        let mut words = vec![0; room(screen, 0).unwrap()];
+        raw::open(&mut words, screen, 0).done().unwrap();
+        words
+    };
+    let shape = triangle([-14_405, -12_803], [-11_202, -10_411], [-10_254, -12_444]);
+    let bin = time(CALLS, prepare, |words| {
+        for _ in 0..CALLS {
+            black_box(raw::bin(words, 1, black_box(shape)));
+        }
+    });
+    row("bin, a triangle off a screen of one tile, no block", bin, Beside::Nothing)
+}
+
+/// Coordinates on and around the screen, eighths of a unit, so that one in eight lies half way between two units.
+fn coordinates() -> Vec<f32> {
+    (0..4096u32).map(|k| (k.wrapping_mul(2_654_435_761) >> 12) as f32 / 128.0 - 2048.0).collect()
+}
+
+/// The time of a call for each of some coordinates.
+fn each(coordinates: &[f32], call: impl Fn(f32)) -> f64 {
+    const TIMES: usize = 25;
+    time(
+        TIMES * coordinates.len(),
+        || (),
+        |()| {
+            for _ in 0..TIMES {
+                coordinates.iter().for_each(|&v| call(black_box(v)));
+            }
+        },
+    )
+}
+
+fn snap() -> Row {
+    let coordinates = coordinates();
+    for &v in &coordinates {
+        assert_eq!(unit(v).ok(), plain::unit(v), "{v}");
+    }
+    let archive = each(&coordinates, |v| {
+        black_box(raw::unit(v));
+    });
+    let plain = each(&coordinates, |v| {
+        black_box(plain::unit(v));
+    });
+    row("unit, a coordinate", archive, Beside::Plain(plain))
+}
+
+fn run() -> Vec<Row> {
+    let mut rows = vec![opening()];
+    rows.extend(calls_on("1,500 small shapes", &small(1500), Beside::PlainOfARange));
+    rows.extend(calls_on("31 screen-wide shapes", &wide(31), Beside::Plain));
+    rows.extend([least_bin(), snap()]);
+    rows
+}
+
+fn main() {
+    let runs: Vec<Vec<Row>> = (1..=RUNS)
+        .map(|count| {
+            eprintln!("run {count} of {RUNS}");
+            run()
+        })
+        .collect();
+    table::print(&runs);
 }

@@ -1,7 +1,7 @@
 //! A plain binner to compare with: a vector for each tile, and the same corner test. It refuses nothing, and there is
 //! nothing to audit.
 
-use flourscoop::{Pixel, Screen, Shape, Vertex};
+use flourscoop::{Screen, Shape, Vertex};
 
 pub struct Plain {
     side: i64,
@@ -76,13 +76,7 @@ impl Plain {
 }
 
 /// The unit of a coordinate, where it has one.
-fn unit(v: f32) -> Option<i32> {
+pub fn unit(v: f32) -> Option<i32> {
     let scaled = (v * 16.0).round_ties_even();
     (-262_144.0..=262_143.0).contains(&scaled).then_some(scaled as i32)
-}
-
-/// The triangle in units, where each coordinate has one.
-pub fn snap([a, b, c]: [Pixel; 3]) -> Option<[Vertex; 3]> {
-    let vertex = |pixel: Pixel| Some(Vertex { x: unit(pixel.x)?, y: unit(pixel.y)? });
-    Some([vertex(a)?, vertex(b)?, vertex(c)?])
 }

@@ -1,10 +1,10 @@
 //! A safe face of libflourscoop.a, the proved tile binner.
 //!
 //! ```
-//! use flourscoop::{room, Pool, Refusal, Screen, Shape, Vertex};
+//! use flourscoop::{room, unit, Pool, Refusal, Screen, Shape, Vertex};
 //!
 //! let screen = Screen { width: 64, height: 32, s: 4 };
-//! let mut words = vec![0; room(screen, 2)];
+//! let mut words = vec![0; room(screen, 2)?];
 //! let mut pool = Pool::open(&mut words, screen, 2)?;
 //!
 //! let binned = pool.bin(7, Shape::Point(Vertex { x: 0, y: 0 }))?;
@@ -14,12 +14,16 @@
 //! // four tiles meet in this point, three of them are empty, and one block is free
 //! assert_eq!(pool.bin(9, Shape::Point(Vertex { x: 256, y: 256 })), Err(Refusal::NoRoom));
 //! assert_eq!(pool.release(0)?, 1);
+//!
+//! // 1.5 units lie half way between two, of which 2 is even
+//! assert_eq!(unit(0.09375)?, 2);
 //! # Ok::<(), Refusal>(())
 //! ```
 
 pub mod raw;
+mod refusal;
 
-use std::fmt;
+pub use refusal::Refusal;
 
 /// A screen of `width` by `height` pixels with tiles of 2^`s` by 2^`s` pixels, numbered row by row from the top left.
 #[derive(Clone, Copy, PartialEq, Eq, Debug)]
@@ -63,58 +67,12 @@ impl<V: Copy> Shape<V> {
     }
 }
 
-/// Why a call was refused. A refused call changes no word.
-#[derive(Clone, Copy, PartialEq, Eq, Debug)]
-pub enum Refusal {
-    /// 1: the screen or s is outside the rules
-    Screen,
-    /// 2: more than 2,048 blocks
-    Blocks,
-    /// 3: the slice is shorter than the room needed
-    Short,
-    /// 4: the pool is not sound
-    Unsound,
-    /// 5: the id is above 16,777,215
-    Id,
-    /// 6: a coordinate is infinite or no number
-    NotFinite,
-    /// 7: a unit is outside the range of a vertex
-    OutOfRange,
-    /// 8: the blocks needed exceed the free ones
-    NoRoom,
-    /// 9: there is no such tile
-    NoTile,
-    /// 10: the place is at or past the entry count
-    NoPlace,
-}
-
-const REFUSALS: [Refusal; 10] = [
-    Refusal::Screen,
-    Refusal::Blocks,
-    Refusal::Short,
-    Refusal::Unsound,
-    Refusal::Id,
-    Refusal::NotFinite,
-    Refusal::OutOfRange,
-    Refusal::NoRoom,
-    Refusal::NoTile,
-    Refusal::NoPlace,
-];
-
-impl fmt::Display for Refusal {
-    fn fmt(&self, f: &mut fmt::Formatter) -> fmt::Result {
-        write!(f, "refused with {}: {:?}", *self as u32 + 1, self)
-    }
-}
-
-impl std::error::Error for Refusal {}
-
 impl<const VALUES: usize> raw::Answer<VALUES> {
     /// The values of a call that was done, or why it was refused.
     pub fn done(self) -> Result<[u32; VALUES], Refusal> {
         match self.number {
             0 => Ok(self.values),
-            number => Err(REFUSALS[number as usize - 1]),
+            number => Err(Refusal::of(number).expect("a call returns one of the numbers 0 to 10")),
         }
     }
 }
@@ -132,10 +90,21 @@ impl From<[u32; 2]> for Binned {
     }
 }
 
-/// The words that a pool needs for a screen within the rules.
-pub fn room(screen: Screen, blocks: u32) -> usize {
-    let across = |extent: u32| extent.div_ceil(1 << screen.s) as usize;
-    8 + 3 * across(screen.width) * across(screen.height) + 32 * blocks as usize
+/// The words that a pool needs, or the refusal that an opening of it gets for any slice.
+pub fn room(screen: Screen, blocks: u32) -> Result<usize, Refusal> {
+    let Screen { width, height, s } = screen;
+    if !(1..=4096).contains(&width) || !(1..=4096).contains(&height) || !(3..=6).contains(&s) {
+        return Err(Refusal::Screen);
+    }
+    let across = |extent: u32| extent.div_ceil(1 << s) as usize;
+    let tiles = across(width) * across(height);
+    if tiles > 4096 {
+        return Err(Refusal::Screen);
+    }
+    if blocks > 2048 {
+        return Err(Refusal::Blocks);
+    }
+    Ok(8 + 3 * tiles + 32 * blocks as usize)
 }
 
 /// A pool in words that the caller lends. Every call audits it first.
@@ -185,6 +154,11 @@ impl<'a> Pool<'a> {
     pub fn words(&self) -> &[u32] {
         self.words
     }
+}
+
+/// The unit of a coordinate in pixels: the whole number nearest to 16 times it, a half to the even one.
+pub fn unit(v: f32) -> Result<i32, Refusal> {
+    raw::unit(v).done().map(|[unit]| unit as i32)
 }
 
 /// Whether a tile of a screen meets the shape's bounding box.

@@ -24,6 +24,8 @@ extern "C" {
     fn flourscoop_bin_pixels_triangle(pool: *mut u32, words: usize, id: u32,
         x1: f32, y1: f32, x2: f32, y2: f32, x3: f32, y3: f32, tiles: *mut u32, blocks: *mut u32) -> u32;
 
+    fn flourscoop_unit(v: f32, unit: *mut i32) -> u32;
+
     fn flourscoop_box_point(width: u32, height: u32, s: u32, tile: u32,
         x1: i32, y1: i32, touches: *mut u32) -> u32;
     fn flourscoop_box_line(width: u32, height: u32, s: u32, tile: u32,
@@ -105,6 +107,11 @@ pub fn read(pool: &[u32], tile: u32, place: u32) -> Answer<1> {
 /// Empties a tile's list. Value: the blocks given back. Numbers: 0, 4, 9.
 pub fn release(pool: &mut [u32], tile: u32) -> Answer<1> {
     answer(|[blocks]| unsafe { flourscoop_release(pool.as_mut_ptr(), pool.len(), tile, blocks) })
+}
+
+/// The unit of a coordinate in pixels. Value: the unit, as the word that holds the i32. Numbers: 0, 6, 7.
+pub fn unit(v: f32) -> Answer<1> {
+    answer(|[unit]| unsafe { flourscoop_unit(v, std::ptr::from_mut(unit).cast()) })
 }
 
 /// Whether a tile meets a shape's bounding box. Value: 1 for yes, 0 for no. Numbers: 0, 1, 7, 9.

@@ -6,6 +6,7 @@
 
 pub mod marked;
 pub mod pool;
+mod runs;
 pub mod screen;
 pub mod touch;
 pub mod unit;

@@ -1,7 +1,9 @@
 //! The pool: a state with a vector for each list and each chain, the words that say it, and the state that words say.
 
-use std::collections::VecDeque;
+use std::collections::{BTreeMap, VecDeque};
+use std::fmt;
 
+use crate::runs::Runs;
 use crate::screen::Screen;
 use crate::touch::{in_range, touched};
 use crate::unit::units;
@@ -31,20 +33,39 @@ pub fn room(screen: Screen, blocks: u32) -> usize {
 }
 
 /// A tile: the blocks of its chain and the ids of its list, both in order.
-#[derive(Clone, Default, PartialEq, Eq, Debug)]
+#[derive(Clone, Default, PartialEq, Eq)]
 pub struct Tile {
     pub blocks: Vec<u32>,
     pub ids: Vec<u32>,
 }
 
+impl fmt::Debug for Tile {
+    fn fmt(&self, f: &mut fmt::Formatter) -> fmt::Result {
+        let Tile { blocks, ids } = self;
+        f.debug_struct("Tile").field("blocks", &Runs(blocks)).field("ids", &Runs(ids)).finish()
+    }
+}
+
 /// What a sound pool says.
-#[derive(Clone, PartialEq, Eq, Debug)]
+#[derive(Clone, PartialEq, Eq)]
 pub struct State {
     pub screen: Screen,
     pub blocks: u32,
     /// the blocks of the free chain, in order
     pub free: VecDeque<u32>,
     pub tiles: Vec<Tile>,
+}
+
+impl fmt::Debug for State {
+    fn fmt(&self, f: &mut fmt::Formatter) -> fmt::Result {
+        let free: Vec<u32> = self.free.iter().copied().collect();
+        // an empty tile is not shown
+        let tiles: BTreeMap<usize, &Tile> =
+            self.tiles.iter().enumerate().filter(|(_, tile)| **tile != Tile::default()).collect();
+        let mut state = f.debug_struct("State");
+        state.field("screen", &self.screen).field("blocks", &self.blocks);
+        state.field("free", &Runs(&free)).field("tiles", &tiles).finish()
+    }
 }
 
 /// What in a slice is not as the sentences on soundness have it.
@@ -139,6 +160,11 @@ impl State {
             return Err(number::SHORT);
         }
         Ok(State::opened(screen, blocks))
+    }
+
+    /// How many blocks the longest chain of a tile has.
+    pub fn longest_chain(&self) -> usize {
+        self.tiles.iter().map(|tile| tile.blocks.len()).max().unwrap_or(0)
     }
 
     /// All words of the pool.

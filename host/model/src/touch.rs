@@ -20,29 +20,30 @@ fn inside(vertex: Vertex, rectangle: Rectangle) -> [i128; 4] {
 
 /// Rows without v, which u meets exactly if some v goes with it: each row that bounds v from below, joined with each
 /// that bounds it from above.
-fn without_v(rows: &[Row]) -> Vec<Row> {
-    let mut rest: Vec<Row> = rows.iter().copied().filter(|row| row.b == 0).collect();
-    for low in rows.iter().filter(|row| row.b > 0) {
-        for high in rows.iter().filter(|row| row.b < 0) {
-            rest.push(Row { a: low.a * -high.b + high.a * low.b, b: 0, c: low.c * -high.b + high.c * low.b });
-        }
-    }
-    rest
+fn without_v(rows: &[Row]) -> impl Iterator<Item = Row> + '_ {
+    let free_of_v = rows.iter().copied().filter(|row| row.b == 0);
+    let from_below = rows.iter().filter(|row| row.b > 0);
+    let joined = from_below.flat_map(|low| {
+        let from_above = rows.iter().filter(|row| row.b < 0);
+        from_above.map(|high| Row { a: low.a * -high.b + high.a * low.b, b: 0, c: low.c * -high.b + high.c * low.b })
+    });
+    free_of_v.chain(joined)
 }
 
 /// Whether some rational u and v meet all rows.
 fn feasible(rows: &[Row]) -> bool {
-    let of_u: Vec<Row> = without_v(rows).iter().map(|row| Row { a: 0, b: row.a, c: row.c }).collect();
-    without_v(&of_u).iter().all(|row| row.c >= 0)
+    let of_u: Vec<Row> = without_v(rows).map(|row| Row { a: 0, b: row.a, c: row.c }).collect();
+    let mut of_neither = without_v(&of_u);
+    of_neither.all(|row| row.c >= 0)
 }
 
 /// Whether weights exist for three vertices, the first of weight one and the others, u and v, not negative, whose
 /// weighted mean lies in the rectangle.
 fn feasible_with_first(vertices: [Vertex; 3], rectangle: Rectangle) -> bool {
     let [one, u, v] = vertices.map(|vertex| inside(vertex, rectangle));
-    let mut rows = vec![Row { a: 1, b: 0, c: 0 }, Row { a: 0, b: 1, c: 0 }];
-    rows.extend((0..4).map(|side| Row { a: u[side], b: v[side], c: one[side] }));
-    feasible(&rows)
+    let inside = |side: usize| Row { a: u[side], b: v[side], c: one[side] };
+    let (not_negative_u, not_negative_v) = (Row { a: 1, b: 0, c: 0 }, Row { a: 0, b: 1, c: 0 });
+    feasible(&[not_negative_u, not_negative_v, inside(0), inside(1), inside(2), inside(3)])
 }
 
 /// Whether a shape of one to three vertices touches a rectangle: whole weights exist, none negative and not all zero,

@@ -2,6 +2,16 @@
 
 use crate::{number, Pixel, Vertex, UNITS};
 
+/// The table of document 01: 16383.96875 is a 32nd below 16384, and -16384.03125 a 32nd below -16384.
+pub const TABLE: [(f32, Result<i32, u32>); 6] = [
+    (0.03125, Ok(0)),
+    (-0.03125, Ok(0)),
+    (-0.0, Ok(0)),
+    (0.09375, Ok(2)),
+    (16384.0 - 0.03125, Err(number::OUT_OF_RANGE)),
+    (-16384.0 - 0.03125, Ok(-262_144)),
+];
+
 /// The whole number nearest to m·2^e, a half going to the even one; for m below 2^24 and e at most 40.
 fn nearest(m: u128, e: i32) -> i128 {
     if e >= 0 {

@@ -4,11 +4,12 @@ use flourscoop::raw::{self, Answer};
 use flourscoop::Shape;
 use model::pool::{room, State};
 use model::screen::Screen;
+use model::touch::{box_meets, question, touches};
 use model::{number, Pixel, Vertex};
 
 use crate::generate;
-use crate::hold::smaller_shapes;
 use crate::random::Random;
+use crate::smaller;
 
 /// A call on a pool.
 #[derive(Clone, PartialEq, Eq, Debug)]
@@ -51,7 +52,10 @@ impl Call {
                 let shape = shape(random, screen, tile);
                 Call::BinPixels { id: generate::id(random), shape: generate::pixels(random, &shape) }
             }
-            12..=14 => Call::Read { tile: other, place: random.pick(&[0, 0, 1, random.below(40), u32::MAX]) },
+            12..=14 => {
+                let place = random.pick(&[0, 0, 1, random.below(40), random.below(2200), u32::MAX]);
+                Call::Read { tile: other, place }
+            }
             15..=17 => Call::Release { tile: other },
             18 => Call::Audit,
             _ => random
@@ -67,11 +71,19 @@ impl Call {
         }
     }
 
+    /// Reads of the longest list: in its middle, at its last place and past it.
+    pub fn reads_of_longest(state: &State) -> [Call; 3] {
+        let entries = |&tile: &u32| state.tiles[tile as usize].ids.len() as u32;
+        let longest = (0..state.screen.tiles()).max_by_key(entries).unwrap_or(0);
+        let entries = entries(&longest);
+        [entries / 2, entries.saturating_sub(1), entries].map(|place| Call::Read { tile: longest, place })
+    }
+
     /// The call with a smaller shape or a lower number.
     pub fn smaller(&self) -> Vec<Call> {
         match self {
             Call::Bin { id, shape } => {
-                smaller_shapes(shape).into_iter().map(|shape| Call::Bin { id: *id, shape }).collect()
+                smaller::shapes(shape).into_iter().map(|shape| Call::Bin { id: *id, shape }).collect()
             }
             Call::BinPixels { id, shape } => {
                 let units = model::unit::units(shape);
@@ -126,6 +138,29 @@ fn expected<const VALUES: usize>(answer: Result<[u32; VALUES], u32>) -> Outcome 
         Ok(values) => Answer { number: number::DONE, values },
         Err(number) => Answer { number, values: [0; VALUES] },
     })
+}
+
+/// The answers to the question whether a shape touches a tile, by box and by corner.
+pub struct Asked {
+    pub boxed: Result<bool, u32>,
+    pub touched: Result<bool, u32>,
+}
+
+/// Asks the archive and the model both questions, and compares their answers.
+pub fn ask(screen: Screen, tile: u32, shape: &[Vertex]) -> Result<Asked, String> {
+    let [boxed, touched] = [box_meets, touches].map(|way| question(screen, tile, shape, way));
+    let (archive_screen, archive_shape) = (screen_of(screen), shape_of(shape));
+    let ways = [
+        ("box", raw::box_touches(archive_screen, tile, archive_shape), boxed),
+        ("corner", raw::corner_touches(archive_screen, tile, archive_shape), touched),
+    ];
+    for (way, archive, model) in ways {
+        let (archive, model) = (outcome(archive), expected(model.map(|yes| [u32::from(yes)])));
+        if archive != model {
+            return Err(format!("{way}: the archive gives {archive:?}, the model {model:?}"));
+        }
+    }
+    Ok(Asked { boxed, touched })
 }
 
 /// Words lent to the archive, and what the model says of them.

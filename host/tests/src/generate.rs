@@ -6,14 +6,35 @@ use model::{Pixel, Vertex, UNITS};
 
 use crate::random::Random;
 
-/// A screen within the rules, of at most so many columns and rows; its last tiles often reach past the glass.
+/// The screen with these columns, rows and s, whose last tiles reach past the glass by so many pixels.
+pub fn screen_with([columns, rows, s]: [u32; 3], past: [u32; 2]) -> Screen {
+    Screen { width: (columns << s) - past[0], height: (rows << s) - past[1], s }
+}
+
+/// The columns, rows and s of every screen of 4,096 tiles.
+pub fn full_screens() -> Vec<[u32; 3]> {
+    (3..=6).flat_map(|s| (s..=12 - s).map(move |power| [1 << power, 4096 >> power, s])).collect()
+}
+
+/// A screen with these columns, rows and s; its last tiles often reach past the glass.
+fn ragged(random: &Random, sizes: [u32; 3]) -> Screen {
+    let side = 1 << sizes[2];
+    let past = || random.pick(&[0, 0, 1, 7, random.below(side)]).min(side - 1);
+    screen_with(sizes, [past(), past()])
+}
+
+/// A screen within the rules, of at most so many columns and rows.
 pub fn screen(random: &Random, most: u32) -> Screen {
     let s = random.from_to(3, 6) as u32;
-    let extent = || {
-        let tiles = 1 + random.below(most.min(4096 >> s).min(64));
-        (tiles << s) - random.pick(&[0, 0, 1, 7, random.below(1 << s)]).min((1 << s) - 1)
-    };
-    Screen { width: extent(), height: extent(), s }
+    let most = most.min(4096 >> s);
+    let one = 1 + random.below(most);
+    let other = 1 + random.below(most.min(4096 / one));
+    ragged(random, random.pick(&[[one, other, s], [other, one, s]]))
+}
+
+/// A screen of 4,096 tiles.
+pub fn full_screen(random: &Random) -> Screen {
+    ragged(random, random.pick(&full_screens()))
 }
 
 /// A screen that breaks a rule.
@@ -28,6 +49,10 @@ pub fn bad_screen(random: &Random) -> Screen {
         (4096, 4096, 5),
         (4096, 2049, 5),
         (513, 4096, 3),
+        // 65 columns of 64 tiles, 9 rows of 512, and 17 columns of 241
+        (1025, 1024, 4),
+        (4096, 65, 3),
+        (272, 3856, 4),
         (u32::MAX, u32::MAX, u32::MAX),
         (1, 1, 32),
     ]);
@@ -130,7 +155,7 @@ pub fn out_of_range(random: &Random, mut shape: Vec<Vertex>) -> Vec<Vertex> {
 
 /// The pixels of a shape in units, some of them up to half a unit off, or no number at all.
 pub fn pixels(random: &Random, shape: &[Vertex]) -> Vec<Pixel> {
-    let strange = [f32::NAN, f32::INFINITY, f32::NEG_INFINITY, f32::MAX, -16384.0625, 16384.0, f32::MIN_POSITIVE];
+    let strange = [f32::NAN, f32::INFINITY, f32::NEG_INFINITY, f32::MAX, -16384.0 - 0.0625, 16384.0, f32::MIN_POSITIVE];
     let pixel = |unit: i32| {
         let exact = unit as f32 / 16.0;
         let half = random.pick(&[-1.0, 1.0]) / 32.0;
@@ -157,15 +182,18 @@ pub fn id(random: &Random) -> u32 {
     }
 }
 
-/// The state of a sound pool: chains of up to three blocks, in any order of blocks.
+/// The state of a sound pool, its blocks in any order: most have chains of up to three blocks, one in a hundred has longer
+/// ones, and one in four thousand is as large as a pool can be.
 pub fn state(random: &Random) -> State {
-    let screen = screen(random, 5);
-    let most = random.pick(&[3, 12, 40]);
-    let blocks = random.below(most);
+    let (screen, blocks, long) = match random.below(4000) {
+        0 => (full_screen(random), 2048, 70),
+        1..=40 => (screen(random, 3), random.below(200), 70),
+        _ => (screen(random, 5), random.below(random.pick(&[3, 12, 40])), 3),
+    };
     let mut state = State::opened(screen, blocks);
     random.shuffle(state.free.make_contiguous());
     for tile in &mut state.tiles {
-        let chain = random.pick(&[0, 0, 1, 1, 2, 3]);
+        let chain = random.pick(&[0, 0, 1, 1, 2, 1 + random.below(long)]) as usize;
         if chain == 0 || chain > state.free.len() {
             continue;
         }

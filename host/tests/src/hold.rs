@@ -3,9 +3,6 @@
 use std::fmt::Debug;
 use std::time::{Duration, Instant};
 
-use model::screen::Screen;
-use model::Vertex;
-
 use crate::random::Random;
 
 /// How long the smallest case is looked for.
@@ -53,56 +50,4 @@ pub fn hold<C: Case>(seed: u64, cases: u64, mut look: impl FnMut(&C, C::Seen)) {
             }
         }
     }
-}
-
-/// The numbers that lie a step from `number` towards 0.
-pub fn nearer_zero(number: i32) -> Vec<i32> {
-    let mut nearer = vec![0, number / 2, number - number.signum()];
-    nearer.retain(|&other| other != number);
-    nearer.dedup();
-    nearer
-}
-
-/// `items` with one of them replaced by each of the `smaller` ones of it.
-pub fn each_smaller<T: Clone>(items: &[T], smaller: impl Fn(&T) -> Vec<T>) -> Vec<Vec<T>> {
-    let replaced = |place: usize, by: T| {
-        let mut other = items.to_vec();
-        other[place] = by;
-        other
-    };
-    let with_smaller = |(place, item)| smaller(item).into_iter().map(move |by| replaced(place, by)).collect::<Vec<_>>();
-    items.iter().enumerate().flat_map(with_smaller).collect()
-}
-
-/// `items` with a run of them left out: half, a quarter and so on, down to one.
-pub fn fewer<T: Clone>(items: &[T]) -> Vec<Vec<T>> {
-    let mut all = Vec::new();
-    let mut run = items.len().div_ceil(2);
-    while run > 0 {
-        for start in (0..items.len()).step_by(run) {
-            let end = items.len().min(start + run);
-            all.push([&items[..start], &items[end..]].concat());
-        }
-        run /= 2;
-    }
-    all
-}
-
-/// The screens with half the width or half the height.
-pub fn smaller_screens(screen: Screen) -> Vec<Screen> {
-    let Screen { width, height, .. } = screen;
-    let mut all = vec![Screen { width: width.div_ceil(2), ..screen }, Screen { height: height.div_ceil(2), ..screen }];
-    all.retain(|&smaller| smaller != screen);
-    all
-}
-
-/// The smaller shapes: fewer vertices, and coordinates nearer to 0.
-pub fn smaller_shapes(shape: &[Vertex]) -> Vec<Vec<Vertex>> {
-    let mut all: Vec<_> = fewer(shape).into_iter().filter(|shape| !shape.is_empty()).collect();
-    all.extend(each_smaller(shape, |&[x, y]| {
-        let along_x = nearer_zero(x).into_iter().map(|x| [x, y]);
-        let along_y = nearer_zero(y).into_iter().map(|y| [x, y]);
-        along_x.chain(along_y).collect()
-    }));
-    all
 }

@@ -4,3 +4,4 @@ pub mod call;
 pub mod generate;
 pub mod hold;
 pub mod random;
+pub mod smaller;

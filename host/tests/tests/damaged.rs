@@ -5,8 +5,9 @@ use std::collections::BTreeMap;
 use model::pool::{block_at, room, tile_at, State, IDS_OF_BLOCK, MOST_ID, POISON};
 use tests::call::{Call, Slot};
 use tests::generate;
-use tests::hold::{fewer, hold, Case};
+use tests::hold::{hold, Case};
 use tests::random::Random;
+use tests::smaller::{self, fewer};
 
 /// A sound pool with words changed and, perhaps, words cut off or added; and a call on it.
 #[derive(Clone, Debug)]
@@ -66,6 +67,11 @@ fn amiss_as_a_whole(random: &Random, state: &State, words: &[u32]) -> Vec<(usize
 }
 
 impl Damaged {
+    /// A call on a pool that is as it was opened or binned.
+    fn whole(state: State, call: Call) -> Damaged {
+        Damaged { length: room(state.screen, state.blocks), state, changes: Vec::new(), call }
+    }
+
     fn words(&self) -> Vec<u32> {
         let mut words = self.state.words();
         words.resize(self.length, 0x7A11);
@@ -98,7 +104,13 @@ impl Case for Damaged {
             3..=9 => words.len() + random.below(40) as usize,
             _ => words.len(),
         };
-        let call = Call::make(random, state.screen);
+        let [middle, last, past] = Call::reads_of_longest(&state);
+        let call = match random.below(12) {
+            0 => middle,
+            1 => last,
+            2 => past,
+            _ => Call::make(random, state.screen),
+        };
         Damaged { state, changes, length, call }
     }
 
@@ -109,12 +121,12 @@ impl Case for Damaged {
         if self.length != room {
             all.push(Damaged { length: room, ..self.clone() });
         }
-        let full = (0..self.state.tiles.len()).filter(|&tile| !self.state.tiles[tile].ids.is_empty());
-        all.extend(full.map(|tile| {
-            let mut emptier = self.clone();
-            emptier.state.release(tile as u32).unwrap();
-            emptier
-        }));
+        let calls = self.call.smaller().into_iter().chain((self.call != Call::Audit).then_some(Call::Audit));
+        all.extend(calls.map(|call| Damaged { call, ..self.clone() }));
+        all.extend(smaller::states(&self.state).into_iter().map(|state| Damaged { state, ..self.clone() }));
+        if self.changes.is_empty() && self.length == room {
+            all.extend(smaller::pools(&self.state).into_iter().map(|state| Damaged::whole(state, self.call.clone())));
+        }
         all
     }
 
@@ -136,8 +148,15 @@ impl Case for Damaged {
 #[test]
 fn the_audit_says_yes_exactly_for_sound_pools() {
     let mut verdicts: BTreeMap<String, u64> = BTreeMap::new();
-    hold(0xF100_0003, 200_000, |_: &Damaged, verdict| *verdicts.entry(verdict).or_default() += 1);
+    let (mut chain, mut largest) = (0, 0);
+    hold(0xF100_0003, 200_000, |case: &Damaged, verdict| {
+        *verdicts.entry(verdict).or_default() += 1;
+        chain = chain.max(case.state.longest_chain());
+        largest += u32::from(case.state.tiles.len() == 4096 && case.state.blocks == 2048);
+    });
     println!("sound still, or the first fault found: {verdicts:?}");
+    println!("the longest chain has {chain} blocks; {largest} pools have 4,096 tiles and 2,048 blocks");
     assert_eq!(verdicts.len(), 10, "each sentence should be broken, and some pools be sound still");
     assert!(verdicts.values().all(|&pools| pools > 500), "each often");
+    assert!(chain > 40 && largest > 20, "long chains and largest pools should be there");
 }

@@ -1,7 +1,8 @@
 //! What document 01 lists, by the wrapper.
 
-use flourscoop::{box_touches, corner_touches, room, Binned, Pixel, Pool, Refusal, Screen, Shape, Vertex};
+use flourscoop::{box_touches, corner_touches, room, unit, Binned, Pixel, Pool, Refusal, Screen, Shape, Vertex};
 use model::marked::{MARKED, SCREEN};
+use model::unit::TABLE;
 use tests::call::{screen_of, shape_of};
 
 const fn point(x: i32, y: i32) -> Shape<Vertex> {
@@ -13,7 +14,7 @@ fn marked_cases() {
     let screen = screen_of(SCREEN);
     for case in MARKED {
         let shape = shape_of(case.shape);
-        let mut words = vec![0; room(screen, 8)];
+        let mut words = vec![0; room(screen, 8).unwrap()];
         let mut pool = Pool::open(&mut words, screen, 8).unwrap();
         let tiles = case.tiles.len() as u32;
         assert_eq!(pool.bin(77, shape), Ok(Binned { tiles, blocks: tiles }), "{}", case.name);
@@ -39,7 +40,7 @@ fn the_box_of_a_negative_point_gains_no_tile() {
 #[test]
 fn pool_case() {
     let screen = screen_of(SCREEN);
-    assert_eq!(room(screen, 2), 96);
+    assert_eq!(room(screen, 2), Ok(96));
     let mut words = [0; 96];
     let mut pool = Pool::open(&mut words, screen, 2).unwrap();
     assert_eq!(pool.words()[..8], [64, 32, 4, 2, 2, 1, 8, 32]);
@@ -63,19 +64,28 @@ fn pool_case() {
 #[test]
 fn units_of_the_table() {
     let screen = screen_of(SCREEN);
-    let mut words = vec![0; room(screen, 8)];
+    let mut words = vec![0; room(screen, 8).unwrap()];
     Pool::open(&mut words, screen, 8).unwrap();
     let binned = |bin: &dyn Fn(&mut Pool) -> Result<Binned, Refusal>| {
         let mut words = words.clone();
         (bin(&mut Pool::over(&mut words)), words)
     };
-    for (x, unit) in [(0.03125, 0), (-0.03125, 0), (-0.0, 0), (0.09375, 2), (-16384.03125, -262_144)] {
+    for (x, answer) in TABLE {
+        assert_eq!(unit(x).map_err(Refusal::number), answer, "{x}");
         let pixels = Shape::Line(Pixel { x, y: 4.0 }, Pixel { x: 20.0, y: 4.0 });
-        let units = Shape::Line(Vertex { x: unit, y: 64 }, Vertex { x: 320, y: 64 });
-        assert_eq!(binned(&|pool| pool.bin_pixels(1, pixels)), binned(&|pool| pool.bin(1, units)));
+        let in_pixels = binned(&|pool| pool.bin_pixels(1, pixels));
+        match answer {
+            Ok(x) => {
+                let units = Shape::Line(Vertex { x, y: 64 }, Vertex { x: 320, y: 64 });
+                assert_eq!(in_pixels, binned(&|pool| pool.bin(1, units)), "{x}");
+            }
+            Err(number) => assert_eq!(in_pixels.0.map_err(Refusal::number), Err(number), "{x}"),
+        }
     }
+    assert_eq!([f32::INFINITY, f32::NEG_INFINITY, f32::NAN].map(unit), [Err(Refusal::NotFinite); 3]);
+    // x comes before y
     let refused = |x| binned(&|pool| pool.bin_pixels(1, Shape::Point(Pixel { x, y: f32::NAN }))).0;
-    assert_eq!(refused(16383.96875), Err(Refusal::OutOfRange));
+    assert_eq!(refused(16384.0), Err(Refusal::OutOfRange));
     assert_eq!(refused(f32::INFINITY), Err(Refusal::NotFinite));
     assert_eq!(refused(0.0), Err(Refusal::NotFinite));
 }

@@ -1,6 +1,8 @@
-//! From f32 to units, seen through bin. A line that passes through the point in which four tiles meet is listed in all
-//! four; with one end a unit off it misses that point, and at least one of the tiles. So for each f32 there is a line
-//! that is listed four times exactly if the f32 goes to the unit that the model computes.
+//! From f32 to units: the unit that the archive says, and the one that its bin goes by.
+//!
+//! A line that passes through the point in which four tiles meet is listed in all four; with one end a unit off it misses
+//! that point, and at least one of the tiles. So for each f32 there is a line that is listed four times exactly if bin
+//! takes the f32 to the unit that the model computes.
 
 use std::thread;
 
@@ -9,7 +11,7 @@ use model::pool::State;
 use model::screen::Screen;
 use model::touch::touched;
 use model::unit::unit;
-use model::{Vertex, UNITS};
+use model::{number, Vertex, UNITS};
 use tests::call::pixels_of;
 use tests::hold::{hold, Case};
 use tests::random::Random;
@@ -20,6 +22,22 @@ const SCREEN: Screen = Screen { width: 16, height: 16, s: 3 };
 const MEETING: i32 = 128;
 
 const ID: u32 = 5;
+
+/// Asks for the unit of these bits.
+fn check_unit(bits: u32) -> Result<(), String> {
+    let archive = raw::unit(f32::from_bits(bits));
+    let model = match unit(bits) {
+        Ok(unit) => Answer { number: number::DONE, values: [unit as u32] },
+        Err(number) => Answer { number, values: [0] },
+    };
+    if archive != model {
+        let v = f32::from_bits(bits);
+        return Err(format!(
+            "the unit of bits {bits:#010x}, that is {v:?}: the archive gives {archive:?}, the model {model:?}"
+        ));
+    }
+    Ok(())
+}
 
 /// A diagonal line through the meeting point whose first x is this unit, and which ends one unit past the point.
 fn diagonal(unit: i32) -> [Vertex; 2] {
@@ -43,7 +61,7 @@ impl Images {
 
     /// Bins the diagonal whose first x is the unit of these bits, its first coordinate given as the bits themselves; with
     /// x and y exchanged where `mirrored`.
-    fn check(&self, bits: u32, mirrored: bool) -> Result<(), String> {
+    fn check_bin(&self, bits: u32, mirrored: bool) -> Result<(), String> {
         let expected = unit(bits);
         let line = diagonal(expected.unwrap_or(0)).map(|vertex| vertex.map(|unit| (unit as f32 / 16.0).to_bits()));
         let [[_, y1], end] = line;
@@ -72,7 +90,7 @@ thread_local! {
     static IMAGES: Images = Images::new();
 }
 
-/// A bit pattern, tried as x and as y.
+/// A bit pattern: its unit, and a bin with it as x and as y.
 #[derive(Clone, Debug)]
 struct Pattern(u32);
 
@@ -99,7 +117,8 @@ impl Case for Pattern {
     }
 
     fn run(&self) -> Result<(), String> {
-        IMAGES.with(|images| images.check(self.0, false).and_then(|()| images.check(self.0, true)))
+        check_unit(self.0)?;
+        IMAGES.with(|images| images.check_bin(self.0, false).and_then(|()| images.check_bin(self.0, true)))
     }
 }
 
@@ -122,20 +141,19 @@ fn units_are_the_model_s() {
     hold(0xF100_0005, 0x1_0000 + 2_000_000, |_: &Pattern, ()| ());
 }
 
-/// All 2^32 patterns, as x: `cargo test -p tests --test floats -- --ignored --nocapture`.
 #[test]
-#[ignore]
+#[ignore = "all 2^32 patterns take half a minute on two cores"]
 fn units_of_all_patterns_are_the_model_s() {
     let threads = thread::available_parallelism().map_or(1, |threads| threads.get() as u64);
     let share = (1u64 << 32).div_ceil(threads);
     thread::scope(|scope| {
         for first in (0..1u64 << 32).step_by(share as usize) {
             scope.spawn(move || {
-                let images = Images::new();
-                for bits in first..(first + share).min(1 << 32) {
-                    images.check(bits as u32, false).unwrap();
+                let last = (first + share).min(1 << 32) - 1;
+                for bits in first..=last {
+                    check_unit(bits as u32).unwrap();
                 }
-                println!("{:#x} patterns from {first:#x} hold", share);
+                println!("patterns {first:#x} to {last:#x} hold");
             });
         }
     });

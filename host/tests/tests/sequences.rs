@@ -5,8 +5,9 @@ use model::pool::{block_at, room, State, IDS_OF_BLOCK, POISON};
 use model::screen::Screen;
 use tests::call::{Blocks, Call, Slot};
 use tests::generate;
-use tests::hold::{each_smaller, fewer, hold, smaller_screens, Case};
+use tests::hold::{hold, Case};
 use tests::random::Random;
+use tests::smaller::{self, fewer};
 
 /// Calls on two pools for one screen, the second with at least as many blocks as the first.
 #[derive(Clone, Debug)]
@@ -32,26 +33,63 @@ impl Repeated {
     }
 }
 
-impl Case for Sequence {
+/// How large a sequence is: the screen, the blocks of both pools, and how often a call may be repeated.
+struct Sizes {
+    screen: Screen,
+    blocks: [u32; 2],
+    times: &'static [u32],
+}
+
+impl Sizes {
+    fn usual(random: &Random) -> Sizes {
+        let first = random.below(24);
+        let blocks = [first, first + 1 + random.below(12)];
+        // the same call again and again makes chains
+        Sizes { screen: generate::screen(random, 4), blocks, times: &[1, 1, 1, 1, 1, 1, 1, 2, 3, 31, 34] }
+    }
+
+    /// As large as a pool can be, or nearly.
+    fn large(random: &Random) -> Sizes {
+        let screen = random.pick(&[generate::full_screen(random), generate::screen(random, 512)]);
+        let first = random.pick(&[1024, 2047, random.below(2049)]);
+        let second = random.pick(&[2048, 2048 - random.below(2049 - first)]);
+        Sizes { screen, blocks: [first, second], times: &[1, 1, 2] }
+    }
+
+    /// Few tiles with long chains.
+    fn long(random: &Random) -> Sizes {
+        let first = 60 + random.below(60);
+        let blocks = [first, first + random.below(30)];
+        Sizes { screen: generate::screen(random, 2), blocks, times: &[1, 1, 31, 310, 700] }
+    }
+}
+
+/// What the calls of a sequence reached.
+struct Seen {
     /// the numbers that the calls on the first pool returned
-    type Seen = Vec<u32>;
+    numbers: Vec<u32>,
+    /// the most blocks that a chain had, in either pool
+    chain: usize,
+}
+
+impl Case for Sequence {
+    type Seen = Seen;
 
     fn make(random: &Random, place: u64) -> Sequence {
-        // one in a thousand is as large as a pool can be
-        let large = place % 1000 == 0;
-        let screen = generate::screen(random, if large { 64 } else { 4 });
-        let first = random.below(if large { 1025 } else { 24 });
-        let extra = 1 + random.below(if large { 1024 } else { 12 });
+        let sizes = match place % 1000 {
+            0 => Sizes::large(random),
+            500 => Sizes::long(random),
+            _ => Sizes::usual(random),
+        };
+        let Sizes { screen, blocks, times } = sizes;
         let early = random.pick(&[0, 0, 0, 0, 0, 0, 0, 1, 3]);
         let mut calls: Vec<_> = (0..early).map(|_| Repeated(1, Call::make(random, screen))).collect();
         calls.push(Repeated(1, Call::Open { screen, blocks: Blocks::Own }));
         for _ in 0..2 + random.below(14) {
-            // the same call again and again makes long chains
-            let times = random.pick(&[1, 1, 1, 1, 1, 1, 1, 2, 3, 31, 34]);
-            calls.push(Repeated(times, Call::make(random, screen)));
+            calls.push(Repeated(random.pick(times), Call::make(random, screen)));
         }
         let tails = [random.below(4) as usize, random.below(4) as usize];
-        Sequence { screen, blocks: [first, first + extra], tails, calls }
+        Sequence { screen, blocks, tails, calls }
     }
 
     fn smaller(&self) -> Vec<Sequence> {
@@ -59,34 +97,39 @@ impl Case for Sequence {
         let blocks = [[self.blocks[0] / 2, self.blocks[1]], [self.blocks[0], self.blocks[0]]];
         let with_blocks = |blocks| Sequence { blocks, ..self.clone() };
         let mut all: Vec<_> = fewer(&self.calls).into_iter().map(with_calls).collect();
-        all.extend(smaller_screens(self.screen).into_iter().map(|screen| self.on(screen)));
+        all.extend(smaller::screens(self.screen).into_iter().map(|screen| self.on(screen)));
         all.extend(blocks.into_iter().filter(|&fewer| fewer != self.blocks).map(with_blocks));
-        all.extend(each_smaller(&self.calls, Repeated::smaller).into_iter().map(with_calls));
+        all.extend(smaller::each(&self.calls, Repeated::smaller).into_iter().map(with_calls));
         all
     }
 
-    /// Makes each call on the first pool and, unless that refused it with 8, on the second.
-    fn run(&self) -> Result<Vec<u32>, String> {
+    /// Makes each call on the first pool and, unless that has no room for it (3 or 8), on the second; then reads the longest
+    /// list of each.
+    fn run(&self) -> Result<Seen, String> {
         let (mut first, mut second) = (self.slot(0), self.slot(1));
-        let mut numbers = Vec::new();
+        let mut seen = Seen { numbers: Vec::new(), chain: 0 };
         let calls = self.calls.iter().flat_map(|Repeated(times, call)| std::iter::repeat_n(call, *times as usize));
         for call in calls {
             let answer = first.call(call).map_err(|wrong| format!("first pool: {wrong}"))?;
-            numbers.push(answer[0]);
-            if answer[0] != number::NO_ROOM {
+            seen.numbers.push(answer[0]);
+            if ![number::SHORT, number::NO_ROOM].contains(&answer[0]) {
                 let shared = second.call(call).map_err(|wrong| format!("second pool: {wrong}"))?;
                 if shared != answer {
                     return Err(format!("{call:?}: the first pool answers {answer:?}, the second {shared:?}"));
                 }
             }
             self.agree(&first, &second).map_err(|wrong| format!("after {call:?}: {wrong}"))?;
+            seen.chain = seen.chain.max(second.state.as_ref().map_or(0, State::longest_chain));
         }
-        for slot in [first, second] {
+        for mut slot in [first, second] {
             if State::read(&slot.words).ok() != slot.state {
                 return Err("the words do not say what the model's state is".into());
             }
+            for read in slot.state.as_ref().map(Call::reads_of_longest).iter().flatten() {
+                slot.call(read).map_err(|wrong| format!("after all calls, {wrong}"))?;
+            }
         }
-        Ok(numbers)
+        Ok(seen)
     }
 }
 
@@ -134,8 +177,14 @@ impl Sequence {
 
 #[test]
 fn two_pools_answer_and_hold_as_the_model() {
-    let mut numbers = [0u64; 11];
-    hold(0xF100_0002, 20_000, |_: &Sequence, seen| seen.iter().for_each(|&number| numbers[number as usize] += 1));
+    let (mut numbers, mut chain, mut largest) = ([0u64; 11], 0, 0);
+    hold(0xF100_0002, 20_000, |case: &Sequence, seen: Seen| {
+        seen.numbers.iter().for_each(|&number| numbers[number as usize] += 1);
+        chain = chain.max(seen.chain);
+        largest += u32::from(case.screen.tiles() == 4096 && case.blocks[1] == 2048);
+    });
     println!("calls on the first pool, by the number that they return: {numbers:?}");
+    println!("the longest chain has {chain} blocks; {largest} pools have 4,096 tiles and 2,048 blocks");
     assert!(numbers.iter().all(|&calls| calls > 500), "each number should be returned often");
+    assert!(chain > 40 && largest > 3, "long chains and largest pools should be there");
 }

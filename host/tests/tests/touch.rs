@@ -1,13 +1,13 @@
 //! Box and corner against the model, on shapes most of which lie where the answer turns.
 
-use flourscoop::raw::{self, Answer};
 use model::screen::{Rectangle, Screen};
-use model::touch::{box_meets, question, touches};
+use model::touch::touches;
 use model::Vertex;
-use tests::call::{screen_of, shape_of};
+use tests::call::{ask, Asked};
 use tests::generate;
-use tests::hold::{hold, smaller_screens, smaller_shapes, Case};
+use tests::hold::{hold, Case};
 use tests::random::Random;
+use tests::smaller;
 
 #[derive(Clone, Debug)]
 struct Question {
@@ -16,17 +16,11 @@ struct Question {
     shape: Vec<Vertex>,
 }
 
-/// What the model answers.
-struct Seen {
-    boxed: Result<bool, u32>,
-    touched: Result<bool, u32>,
-}
-
 impl Case for Question {
-    type Seen = Seen;
+    type Seen = Asked;
 
     fn make(random: &Random, _place: u64) -> Question {
-        let most = random.pick(&[2, 6, 64]);
+        let most = random.pick(&[2, 6, 64, 512]);
         let screen = generate::screen(random, most);
         let tile = generate::tile(random, screen);
         let shape = generate::shape(random, screen, tile);
@@ -46,27 +40,13 @@ impl Case for Question {
         let tiles = [0, self.tile / 2, self.tile.saturating_sub(1)].into_iter().filter(|&tile| tile < self.tile);
         let mut all: Vec<_> = tiles.map(|tile| Question { tile, ..self.clone() }).collect();
         all.extend((self.tile > 0).then(|| self.at_first_tile()));
-        all.extend(smaller_screens(self.screen).into_iter().map(|screen| Question { screen, ..self.clone() }));
-        all.extend(smaller_shapes(&self.shape).into_iter().map(|shape| Question { shape, ..self.clone() }));
+        all.extend(smaller::screens(self.screen).into_iter().map(|screen| Question { screen, ..self.clone() }));
+        all.extend(smaller::shapes(&self.shape).into_iter().map(|shape| Question { shape, ..self.clone() }));
         all
     }
 
-    fn run(&self) -> Result<Seen, String> {
-        let ask = |way| question(self.screen, self.tile, &self.shape, way);
-        let expected = |answer| match answer {
-            Ok(touches) => Answer { number: 0, values: [u32::from(touches)] },
-            Err(number) => Answer { number, values: [0] },
-        };
-        let seen = Seen { boxed: ask(box_meets), touched: ask(touches) };
-        let (screen, shape) = (screen_of(self.screen), shape_of(&self.shape));
-        let ways = [
-            ("box", raw::box_touches(screen, self.tile, shape), expected(seen.boxed)),
-            ("corner", raw::corner_touches(screen, self.tile, shape), expected(seen.touched)),
-        ];
-        match ways.into_iter().find(|(_, archive, model)| archive != model) {
-            Some((way, archive, model)) => Err(format!("{way}: the archive gives {archive:?}, the model {model:?}")),
-            None => Ok(seen),
-        }
+    fn run(&self) -> Result<Asked, String> {
+        ask(self.screen, self.tile, &self.shape)
     }
 }
 

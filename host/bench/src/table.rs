@@ -1,0 +1,85 @@
+//! The table of the measures: for each call the middle of its runs and, in brackets, the least and the most.
+
+/// What stands beside a call's time.
+#[derive(Clone, Copy)]
+pub enum Beside {
+    Nothing,
+    /// the plain binner's time, and the ratio of the middles
+    Plain(f64),
+    /// the plain binner's time; the call's own is a difference that is lost in its spread, so that it has a range alone and
+    /// no ratio
+    PlainOfARange(f64),
+}
+
+/// A call, its time in nanoseconds, and what stands beside it.
+pub struct Row {
+    pub call: String,
+    pub archive: f64,
+    pub beside: Beside,
+}
+
+/// A number with one decimal below a hundred and none above, its thousands parted by commas.
+fn number(value: f64) -> String {
+    if value.abs() < 99.95 {
+        return format!("{value:.1}").replace('-', "−");
+    }
+    let digits = format!("{:.0}", value.abs());
+    let mut parted = String::from(if value < 0.0 { "−" } else { "" });
+    for (place, digit) in digits.chars().enumerate() {
+        if place > 0 && (digits.len() - place) % 3 == 0 {
+            parted.push(',');
+        }
+        parted.push(digit);
+    }
+    parted
+}
+
+/// The times of one row in all runs, in rising order.
+struct Spread(Vec<f64>);
+
+impl Spread {
+    fn of(times: impl Iterator<Item = f64>) -> Spread {
+        let mut times: Vec<f64> = times.collect();
+        times.sort_by(f64::total_cmp);
+        Spread(times)
+    }
+
+    fn middle(&self) -> f64 {
+        self.0[self.0.len() / 2]
+    }
+
+    fn ends(&self) -> [String; 2] {
+        [self.0[0], self.0[self.0.len() - 1]].map(number)
+    }
+
+    fn text(&self) -> String {
+        let [least, most] = self.ends();
+        format!("{} ({least}–{most})", number(self.middle()))
+    }
+
+    fn range(&self) -> String {
+        self.ends().join(" to ")
+    }
+}
+
+/// Prints the table of some runs, each of the same calls in the same order.
+pub fn print(runs: &[Vec<Row>]) {
+    println!("| call | archive, ns | plain Rust, ns | ratio |");
+    println!("|---|---|---|---|");
+    for (at, row) in runs[0].iter().enumerate() {
+        let archive = Spread::of(runs.iter().map(|run| run[at].archive));
+        let plain = Spread::of(runs.iter().filter_map(|run| match run[at].beside {
+            Beside::Nothing => None,
+            Beside::Plain(plain) | Beside::PlainOfARange(plain) => Some(plain),
+        }));
+        let call = &row.call;
+        match row.beside {
+            Beside::Nothing => println!("| {call} | {} | | |", archive.text()),
+            Beside::Plain(_) => {
+                let ratio = number(archive.middle() / plain.middle());
+                println!("| {call} | {} | {} | {ratio} |", archive.text(), plain.text());
+            }
+            Beside::PlainOfARange(_) => println!("| {call} | {} | {} | |", archive.range(), plain.text()),
+        }
+    }
+}

@@ -1,0 +1,100 @@
+//! What is a step smaller than a case's parts, the boldest step first.
+
+use model::pool::{State, Tile, IDS_OF_BLOCK};
+use model::screen::Screen;
+use model::Vertex;
+
+/// The numbers that lie a step from `number` towards 0.
+fn nearer_zero(number: i32) -> Vec<i32> {
+    let mut nearer = vec![0, number / 2, number - number.signum()];
+    nearer.retain(|&other| other != number);
+    nearer.dedup();
+    nearer
+}
+
+/// `items` with one of them replaced by each of the `smaller` ones of it.
+pub fn each<T: Clone>(items: &[T], smaller: impl Fn(&T) -> Vec<T>) -> Vec<Vec<T>> {
+    let replaced = |place: usize, by: T| {
+        let mut other = items.to_vec();
+        other[place] = by;
+        other
+    };
+    let with_smaller = |(place, item)| smaller(item).into_iter().map(move |by| replaced(place, by)).collect::<Vec<_>>();
+    items.iter().enumerate().flat_map(with_smaller).collect()
+}
+
+/// `items` with a run of them left out: half, a quarter and so on, down to one.
+pub fn fewer<T: Clone>(items: &[T]) -> Vec<Vec<T>> {
+    let mut all = Vec::new();
+    let mut run = items.len().div_ceil(2);
+    while run > 0 {
+        for start in (0..items.len()).step_by(run) {
+            let end = items.len().min(start + run);
+            all.push([&items[..start], &items[end..]].concat());
+        }
+        run /= 2;
+    }
+    all
+}
+
+/// The screens with half the width or half the height.
+pub fn screens(screen: Screen) -> Vec<Screen> {
+    let Screen { width, height, .. } = screen;
+    let mut all = vec![Screen { width: width.div_ceil(2), ..screen }, Screen { height: height.div_ceil(2), ..screen }];
+    all.retain(|&smaller| smaller != screen);
+    all
+}
+
+/// The smaller shapes: fewer vertices, and coordinates nearer to 0.
+pub fn shapes(shape: &[Vertex]) -> Vec<Vec<Vertex>> {
+    let mut all: Vec<_> = fewer(shape).into_iter().filter(|shape| !shape.is_empty()).collect();
+    all.extend(each(shape, |&[x, y]| {
+        let along_x = nearer_zero(x).into_iter().map(|x| [x, y]);
+        let along_y = nearer_zero(y).into_iter().map(|y| [x, y]);
+        along_x.chain(along_y).collect()
+    }));
+    all
+}
+
+/// States of a pool of the same size with fewer lists, shorter ones, or plainer numbers; of a large pool, only the boldest.
+pub fn states(state: &State) -> Vec<State> {
+    let full: Vec<usize> = (0..state.tiles.len()).filter(|&tile| !state.tiles[tile].ids.is_empty()).collect();
+    let mut all = vec![State::opened(state.screen, state.blocks)];
+    let mut in_order = state.clone();
+    in_order.free.make_contiguous().sort_unstable();
+    all.push(in_order);
+    for kept in fewer(&full).into_iter().take(40) {
+        let mut emptier = state.clone();
+        for &tile in full.iter().filter(|tile| !kept.contains(tile)) {
+            emptier.free.extend(std::mem::take(&mut emptier.tiles[tile]).blocks);
+        }
+        all.push(emptier);
+    }
+    for &tile in full.iter().take(10) {
+        let Tile { blocks, ids } = &state.tiles[tile];
+        let half = blocks.len() / 2;
+        if half > 0 {
+            let mut shorter = state.clone();
+            shorter.tiles[tile] = Tile { blocks: blocks[..half].to_vec(), ids: ids[..half * IDS_OF_BLOCK].to_vec() };
+            shorter.free.extend(&blocks[half..]);
+            all.push(shorter);
+        }
+        let mut plainer = state.clone();
+        plainer.tiles[tile].ids.fill(0);
+        all.push(plainer);
+    }
+    all.retain(|other| other != state);
+    all
+}
+
+/// Opened pools with fewer blocks or a smaller screen, where this is one.
+pub fn pools(state: &State) -> Vec<State> {
+    if *state != State::opened(state.screen, state.blocks) {
+        return Vec::new();
+    }
+    let fewer = [0, state.blocks / 2, state.blocks.saturating_sub(1)];
+    let fewer = fewer.into_iter().filter(|&blocks| blocks < state.blocks);
+    let mut all: Vec<_> = fewer.map(|blocks| State::opened(state.screen, blocks)).collect();
+    all.extend(screens(state.screen).into_iter().map(|screen| State::opened(screen, state.blocks)));
+    all
+}

@@ -1,0 +1,45 @@
+//! The C header says what the wrapper and the model say: numbers, texts and version.
+
+use flourscoop::Refusal;
+
+const HEADER: &str = include_str!("../../include/flourscoop.h");
+
+/// What follows `#define NAME ` in the header.
+fn defined(name: &str) -> &'static str {
+    let start = format!("#define {name} ");
+    HEADER.lines().find_map(|line| line.strip_prefix(&start)).unwrap_or_else(|| panic!("{name} is not defined"))
+}
+
+/// The names and the texts of `flourscoop_number_text`, in its order.
+fn texts() -> Vec<(&'static str, &'static str)> {
+    let case = |line: &'static str| {
+        let (name, rest) = line.trim().strip_prefix("case ")?.split_once(": return \"")?;
+        Some((name, rest.strip_suffix("\";")?))
+    };
+    HEADER.lines().filter_map(case).collect()
+}
+
+#[test]
+fn numbers_and_texts_are_the_wrapper_s() {
+    let texts = texts();
+    assert_eq!(texts.len(), 11);
+    for (number, (name, text)) in (0..).zip(texts) {
+        assert_eq!(defined(name), format!("{number}u"), "{name}");
+        match number {
+            0 => assert_eq!((name, text), ("FLOURSCOOP_DONE", "done")),
+            _ => {
+                let refusal = Refusal::of(number).unwrap();
+                assert_eq!((refusal.number(), refusal.text()), (number, text), "{name}");
+                assert_eq!(refusal.to_string(), format!("refused with {number}: {text}"));
+            }
+        }
+    }
+    assert_eq!([0, 11, u32::MAX].map(Refusal::of), [None; 3]);
+}
+
+#[test]
+fn the_version_is_the_crates() {
+    assert_eq!(defined("FLOURSCOOP_VERSION"), format!("{:?}", env!("CARGO_PKG_VERSION")));
+    let parts = ["MAJOR", "MINOR", "PATCH"].map(|part| defined(&format!("FLOURSCOOP_VERSION_{part}")));
+    assert_eq!(parts.join("."), env!("CARGO_PKG_VERSION"));
+}

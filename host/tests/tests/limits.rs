@@ -1,0 +1,255 @@
+//! Every limit from both sides, on the archive and on the model: 4,096 tiles, 2,048 blocks, chains up to the longest, and
+//! slices as long as the room and a word less.
+
+use flourscoop::{raw, Refusal};
+use model::number;
+use model::pool::{room, State, Tile, IDS_OF_BLOCK, MOST_BLOCKS};
+use model::screen::Screen;
+use model::Vertex;
+use tests::call::{ask, screen_of, Blocks, Call, Outcome, Slot};
+use tests::generate::{full_screens, screen_with};
+
+const IDS: u32 = IDS_OF_BLOCK as u32;
+const ONE_TILE: Screen = Screen { width: 8, height: 8, s: 3 };
+/// Columns, rows and s of screens of 4,096 tiles: the widest, the highest and the squares with the least and largest tiles.
+const FULL: [[u32; 3]; 4] = [[512, 8, 3], [8, 512, 3], [64, 64, 3], [64, 64, 6]];
+
+/// The number, and zero for each value.
+const fn alone(number: u32) -> Outcome {
+    [number, 0, 0]
+}
+
+/// Makes the call on the archive and on the model, compares every word, and expects this outcome of both.
+fn expect(slot: &mut Slot, call: Call, outcome: Outcome) {
+    assert_eq!(slot.call(&call), Ok(outcome), "{call:?} on {} words", slot.words.len());
+}
+
+fn open(screen: Screen, blocks: u32) -> Call {
+    Call::Open { screen, blocks: Blocks::These(blocks) }
+}
+
+/// Words that say nothing.
+fn unopened(words: usize) -> Slot {
+    Slot::over(vec![0xFFFF_FFFF; words], 0)
+}
+
+/// A pool as long as its room.
+fn opened(screen: Screen, blocks: u32) -> Slot {
+    let mut slot = unopened(room(screen, blocks));
+    expect(&mut slot, open(screen, blocks), alone(number::DONE));
+    slot
+}
+
+/// The bin of a point in the middle of a tile.
+fn bin_at(screen: Screen, tile: u32, id: u32) -> Call {
+    let rectangle = screen.rectangle(tile);
+    let middle = [(rectangle.left + rectangle.right) / 2, (rectangle.top + rectangle.bottom) / 2];
+    Call::Bin { id, shape: vec![middle.map(|along| along as i32)] }
+}
+
+/// A triangle that touches every tile of the first so many rows, and no other.
+fn first_rows(screen: Screen, rows: u32) -> Vec<Vertex> {
+    let low = (16 << screen.s) * rows as i32 - 1;
+    vec![[-262_144, low], [262_143, low], [0, -262_144]]
+}
+
+/// The columns, rows and s of every screen of 4,096 tiles, and the screen: with all of its last tiles on the glass, and
+/// with one pixel of them.
+fn each_full_screen() -> impl Iterator<Item = ([u32; 3], Screen)> {
+    full_screens().into_iter().flat_map(|sizes| {
+        let past = (1 << sizes[2]) - 1;
+        [[0, 0], [past, past]].map(|past| (sizes, screen_with(sizes, past)))
+    })
+}
+
+/// The screens with one column more and with one row more, of which one pixel is on the glass.
+fn one_more([columns, rows, s]: [u32; 3]) -> [Screen; 2] {
+    let past = (1 << s) - 1;
+    [screen_with([columns + 1, rows, s], [past, 0]), screen_with([columns, rows + 1, s], [0, past])]
+}
+
+#[test]
+fn a_screen_has_4096_tiles_and_no_more() {
+    assert!(FULL.iter().all(|sizes| full_screens().contains(sizes)));
+    for (sizes, screen) in each_full_screen() {
+        assert_eq!(screen.tiles(), 4096);
+        let mut slot = opened(screen, 0);
+        for larger in one_more(sizes) {
+            expect(&mut slot, open(larger, 0), alone(number::SCREEN));
+        }
+    }
+    // 4,095 and 4,097 tiles
+    let mut slot = unopened(8 + 3 * 4097);
+    for s in 3..=4 {
+        for [columns, rows] in [[63, 65], [65, 63]] {
+            expect(&mut slot, open(screen_with([columns, rows, s], [0, 0]), 0), alone(number::DONE));
+        }
+        for [columns, rows] in [[17, 241], [241, 17]] {
+            expect(&mut slot, open(screen_with([columns, rows, s], [0, 0]), 0), alone(number::SCREEN));
+        }
+    }
+}
+
+#[test]
+fn a_question_is_about_one_of_4096_tiles() {
+    for (sizes, screen) in each_full_screen() {
+        let last = screen.rectangle(4095);
+        let corner = [last.left, last.top].map(|along| along as i32);
+        for shape in [vec![corner], vec![[0, 0], corner], vec![[0, 0], [corner[0], 0], corner]] {
+            let touched = |screen, tile| ask(screen, tile, &shape).map(|asked| asked.touched);
+            assert_eq!(touched(screen, 4095), Ok(Ok(true)), "{shape:?} on {screen:?}");
+            assert_eq!(touched(screen, 4096), Ok(Err(number::NO_TILE)), "{shape:?} on {screen:?}");
+            for larger in one_more(sizes) {
+                assert_eq!(touched(larger, 0), Ok(Err(number::SCREEN)), "{shape:?} on {larger:?}");
+            }
+        }
+    }
+}
+
+#[test]
+fn a_pool_has_2048_blocks_and_no_more() {
+    for screen in [ONE_TILE, screen_with([64, 64, 6], [0, 0])] {
+        let mut slot = unopened(room(screen, MOST_BLOCKS + 1));
+        expect(&mut slot, open(screen, MOST_BLOCKS + 1), alone(number::BLOCKS));
+        expect(&mut slot, open(screen, u32::MAX), alone(number::BLOCKS));
+        expect(&mut slot, open(screen, MOST_BLOCKS), alone(number::DONE));
+        expect(&mut slot, Call::Audit, alone(number::DONE));
+    }
+}
+
+#[test]
+fn a_slice_is_as_long_as_the_room_or_longer() {
+    let full = FULL.map(|sizes| (screen_with(sizes, [0, 0]), MOST_BLOCKS));
+    let small = [(ONE_TILE, 0), (ONE_TILE, 1), (screen_with([4, 2, 4], [0, 0]), 2)];
+    for (screen, blocks) in small.into_iter().chain(full) {
+        let words = room(screen, blocks);
+        expect(&mut unopened(0), open(screen, blocks), alone(number::SHORT));
+        expect(&mut unopened(words - 1), open(screen, blocks), alone(number::SHORT));
+        expect(&mut unopened(words + 1), open(screen, blocks), alone(number::DONE));
+
+        let mut pool = opened(screen, blocks);
+        expect(&mut pool, bin_at(screen, 0, 7), if blocks == 0 { alone(number::NO_ROOM) } else { [0, 1, 1] });
+        let mut cut = Slot::over(pool.words[..words - 1].to_vec(), blocks);
+        for call in [
+            Call::Audit,
+            bin_at(screen, 0, 8),
+            Call::BinPixels { id: 8, shape: vec![[0, 0]] },
+            Call::Read { tile: 0, place: 0 },
+            Call::Release { tile: 0 },
+        ] {
+            expect(&mut cut, call, alone(number::UNSOUND));
+        }
+    }
+}
+
+#[test]
+fn a_shape_takes_2048_blocks_and_no_more() {
+    for sizes in FULL {
+        let [columns, rows, _] = sizes;
+        let screen = screen_with(sizes, [0, 0]);
+        let half = |id| Call::Bin { id, shape: first_rows(screen, rows / 2) };
+        expect(&mut opened(screen, MOST_BLOCKS - 1), half(1), alone(number::NO_ROOM));
+
+        let mut slot = opened(screen, MOST_BLOCKS);
+        expect(&mut slot, Call::Bin { id: 1, shape: first_rows(screen, rows) }, alone(number::NO_ROOM));
+        expect(&mut slot, half(1), [0, 2048, 2048]);
+        expect(&mut slot, half(2), [0, 2048, 0]);
+        expect(&mut slot, bin_at(screen, 4095, 3), alone(number::NO_ROOM));
+        for tile in [0, columns - 1, columns, 2047] {
+            expect(&mut slot, Call::Read { tile, place: 0 }, [0, 1, 0]);
+            expect(&mut slot, Call::Read { tile, place: 1 }, [0, 2, 0]);
+            expect(&mut slot, Call::Read { tile, place: 2 }, alone(number::NO_PLACE));
+        }
+        for tile in [2048, 4095] {
+            expect(&mut slot, Call::Read { tile, place: 0 }, alone(number::NO_PLACE));
+        }
+        expect(&mut slot, Call::Read { tile: 4096, place: 0 }, alone(number::NO_TILE));
+        expect(&mut slot, Call::Release { tile: 4096 }, alone(number::NO_TILE));
+        expect(&mut slot, Call::Release { tile: 4095 }, [0, 0, 0]);
+        expect(&mut slot, Call::Release { tile: 2047 }, [0, 1, 0]);
+        expect(&mut slot, bin_at(screen, 4095, 3), [0, 1, 1]);
+        expect(&mut slot, Call::Read { tile: 4095, place: 0 }, [0, 3, 0]);
+    }
+}
+
+/// Whether a place is the first or the last of its block.
+fn ends_a_block(place: u32) -> bool {
+    [0, IDS - 1].contains(&(place % IDS))
+}
+
+#[test]
+fn chains_of_1_to_70_blocks_are_read_at_both_ends_of_each_block() {
+    const CHAIN: u32 = 70;
+    let screen = Screen { width: 16, ..ONE_TILE };
+    let id = |tile, place| 2 * place + tile;
+    let mut slot = opened(screen, 2 * CHAIN);
+    for last in 0..CHAIN * IDS {
+        // the blocks of the two chains alternate
+        for tile in 0..2 {
+            expect(&mut slot, bin_at(screen, tile, id(tile, last)), [0, 1, u32::from(last % IDS == 0)]);
+        }
+        if !ends_a_block(last) {
+            continue;
+        }
+        for tile in 0..2 {
+            for place in (0..=last).filter(|&place| ends_a_block(place)) {
+                expect(&mut slot, Call::Read { tile, place }, [0, id(tile, place), 0]);
+            }
+            expect(&mut slot, Call::Read { tile, place: last + 1 }, alone(number::NO_PLACE));
+        }
+    }
+    expect(&mut slot, bin_at(screen, 0, 0), alone(number::NO_ROOM));
+    for tile in 0..2 {
+        expect(&mut slot, Call::Release { tile }, [0, CHAIN, 0]);
+    }
+}
+
+#[test]
+fn the_longest_chain_has_2048_blocks() {
+    let full = MOST_BLOCKS * IDS;
+    let mut state = State::opened(ONE_TILE, MOST_BLOCKS);
+    state.tiles[0] = Tile { blocks: state.free.drain(..).rev().collect(), ids: (0..full - 1).collect() };
+    let mut slot = Slot::over(state.words(), MOST_BLOCKS);
+    expect(&mut slot, Call::Audit, alone(number::DONE));
+    expect(&mut slot, Call::Read { tile: 0, place: full - 1 }, alone(number::NO_PLACE));
+    expect(&mut slot, bin_at(ONE_TILE, 0, full - 1), [0, 1, 0]);
+    // the ends of every fiftieth block, and of the last two
+    let looked_at = |place: u32| place / IDS % 50 == 0 || place / IDS >= MOST_BLOCKS - 2;
+    for place in (0..full).filter(|&place| ends_a_block(place) && looked_at(place)) {
+        expect(&mut slot, Call::Read { tile: 0, place }, [0, place, 0]);
+    }
+    expect(&mut slot, Call::Read { tile: 0, place: full }, alone(number::NO_PLACE));
+    expect(&mut slot, bin_at(ONE_TILE, 0, full), alone(number::NO_ROOM));
+    expect(&mut slot, Call::Release { tile: 0 }, [0, MOST_BLOCKS, 0]);
+    expect(&mut slot, bin_at(ONE_TILE, 0, 0), [0, 1, 1]);
+}
+
+#[test]
+fn the_wrapper_s_room_is_what_open_needs() {
+    // 272 by 3,856 pixels with s = 4 are 4,097 tiles
+    let extents = [0, 1, 8, 9, 63, 64, 65, 272, 1025, 3856, 4095, 4096, 4097, u32::MAX];
+    let exponents = [0, 2, 3, 4, 5, 6, 7, 31, 32, u32::MAX];
+    let screens = extents
+        .iter()
+        .flat_map(|&width| extents.iter().flat_map(move |&height| exponents.map(|s| Screen { width, height, s })));
+    let mut words = vec![0; 8 + 3 * 4096 + 32 * 2048];
+    let mut accepted = 0;
+    for (screen, blocks) in screens.flat_map(|screen| [0, 1, 2047, 2048, 2049, u32::MAX].map(|blocks| (screen, blocks)))
+    {
+        let case = format!("{screen:?} with {blocks} blocks");
+        let said = flourscoop::room(screen_of(screen), blocks);
+        let model = State::open(usize::MAX, screen, blocks).map(|_| room(screen, blocks));
+        assert_eq!(said.map_err(Refusal::number), model, "{case}");
+
+        let all = words.len();
+        let mut open = |length: usize| raw::open(&mut words[..length], screen_of(screen), blocks).done();
+        match said {
+            Ok(room) => {
+                accepted += 1;
+                assert_eq!((open(room), open(room - 1)), (Ok([]), Err(Refusal::Short)), "{case}");
+            }
+            Err(refusal) => assert_eq!(open(all), Err(refusal), "{case}"),
+        }
+    }
+    assert!(accepted > 500, "{accepted} of these should be within the rules");
+}

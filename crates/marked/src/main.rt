@@ -235,6 +235,7 @@ fn main() {
         64,
         Shape::Triangle(at(-1000, -1000), at(5000, -1000), at(-1000, 5000)),
     );
-    run(b"60 by 32", 60, Shape::Point(at(1000, 10)));
+    run(b"60 by 32, past the glass", 60, Shape::Point(at(1000, 10)));
+    run(b"60 by 32, at the glass", 60, Shape::Point(at(960, 10)));
     pool_case();
 }

@@ -1,12 +1,14 @@
 -- The laws of `Diff`: it is closed under the ring's operations, and an order or an equation of integers is one of sums of naturals, which `omega` proves.
 use mathlib.Core.Path.{_≡_, refl, sym, ap, subst}
 use mathlib.Core.Bool.{Bool, true, false, not, cond}
+use mathlib.Core.Logic.{_⊎_, inl, inr, ⊎-elim}
 use Prim.Native.Nat.{ℕ, zero, suc, _+_, _*_, _-_, _<_, _≤_}
 use native.Mathlib.Omega.{arith}
 use lib.Dec.{T, ltb, leb, ltb→lt, nltb→le, leb→le, lt→ltb, le→leb}
 use lib.IntN.{ℤ, pos, negsuc, negℤ, sucℤ, natAbs, subℕ, _+ℤ_, _-ℤ_, _*ℤ_, +ℤ-one}
 use lib.Signed.{ltZ, leZ, _≤ℤ_, _<ℤ_}
 use Rattle.numbers.specs.Diff.{DiffT, Diff, up}
+use Rattle.numbers.proofs.Ceil.{lt-or-ge}
 
 -- ---- the same integer by another pair
 
@@ -168,3 +170,10 @@ pub ≤ℤ-trans : {x y z : ℤ} → x ≤ℤ y → y ≤ℤ z → x ≤ℤ z
 
 pub <ℤ-≤ℤ : {x y : ℤ} → x <ℤ y → x ≤ℤ y
 <ℤ-≤ℤ {x} {y} h = let p = lt-diff (diff-any x) (diff-any y) h in diff-le (diff-any x) (diff-any y) (omega arith)
+
+pub ≤ℤ-or-< : (x y : ℤ) → (x ≤ℤ y) ⊎ (y <ℤ x)
+≤ℤ-or-< x y =
+    ⊎-elim
+    (λ h. inr (diff-lt (diff-any y) (diff-any x) h))
+    (λ h. inl (diff-le (diff-any x) (diff-any y) h))
+    (lt-or-ge (up y + up (negℤ x)) (up x + up (negℤ y)))

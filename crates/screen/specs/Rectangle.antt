@@ -1,5 +1,5 @@
--- The closed rectangle of a tile, in sixteenths of a pixel, x to the right and y down.
-use Prim.Native.Nat.{ℕ, _+_, _*_, _^_, _<_, _≤_}
+-- The closed rectangle of a tile, in sixteenths of a pixel, x to the right and y down. It ends where the screen ends.
+use Prim.Native.Nat.{ℕ, _+_, _*_, _^_, _<_, _≤_, min}
 use lib.IntN.{ℤ, pos}
 use lib.Signed.{_≤ℤ_}
 use Rattle.screen.specs.declared.Screen.{Screen}
@@ -15,9 +15,9 @@ side s = 16 * 2 ^ s
 unfoldable pub near : (extent s k : ℕ) → ℤ
 near extent s k = pos (k * side s)
 
--- and where it ends
+-- and where it ends: after a side, or with the screen
 unfoldable pub far : (extent s k : ℕ) → ℤ
-far extent s k = pos ((k + 1) * side s)
+far extent s k = pos (min ((k + 1) * side s) (16 * extent))
 
 abbrev pub rectangleAt : Screen → (column row : ℕ) → Rectangle
 rectangleAt d column row =

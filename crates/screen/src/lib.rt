@@ -2,7 +2,7 @@
 ghost use mathlib.Core.Path.{_≡_};
 ghost use lib.IntN.{pos, negsuc};
 ghost use lib.Signed.{_≤ℤ_};
-ghost use Prim.Native.Nat.{ℕ, _+_, _*_, _/_, _%_, _^_, _<_, _≤_};
+ghost use Prim.Native.Nat.{ℕ, _+_, _*_, _/_, _%_, _^_, _<_, _≤_, min};
 ghost use Rattle.numbers.specs.Says.{Says};
 ghost use Rattle.screen.specs.Screen.{Allowed, across, columns, rows, tiles, columnOf, rowOf};
 ghost use Rattle.numbers.specs.Diff.{up};
@@ -153,12 +153,27 @@ pub fn near_side(extent: u32, s: u32, k: u32) -> i64
     sides(k, s)
 }
 
+// The lesser of two numbers.
+fn lesser(x: u32, y: u32) -> u32
+    ensures { λ r. ⌜ r ≡ min x y ⌝ }
+{
+    if x < y { x } else { y }
+}
+
+// An extent in units: where the screen ends along that axis.
+fn glass(extent: u32) -> u32
+    requires { ⌜ extent ≤ 4096 ⌝ }
+    ensures { λ r. ⌜ r ≡ 16 * extent ⌝ }
+{
+    16 * extent
+}
+
 // Where tile k along an axis of that extent ends.
 pub fn far_side(extent: u32, s: u32, k: u32) -> i64
     requires { ⌜ (extent ≤ 4096) × (3 ≤ s) × (s ≤ 6) × (k < across extent s) ⌝ }
     ensures { λ r. ⌜ r ≡ far extent s k ⌝ }
 {
-    sides(k + 1, s)
+    lesser((k + 1) * side_of(s), glass(extent)) as i64
 }
 
 // The closed rectangle of the tile in a column and a row.
@@ -212,7 +227,11 @@ pub fn meeting(extent: u32, s: u32, low: i32, high: i32) -> Span
     requires { ⌜ (negsuc 262143 ≤ℤ high) × (high ≤ℤ pos 262143) ⌝ }
     ensures { λ r. ⌜ Meeting extent s low high r ⌝ }
 {
-    let start = first_reaching(positive(low), s);
+    let from = positive(low);
+    if glass(extent) < from {
+        return Span { start: 0, end: 0 };
+    }
+    let start = first_reaching(from, s);
     let end = beginning_before(positive(high + 1), s, tiles_across(extent, s));
     Span { start, end }
 }

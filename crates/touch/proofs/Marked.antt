@@ -1,4 +1,4 @@
--- The twelve marked cases, and that of the screen whose last column passes the glass, hold of the definition of touching: the corner test is computed at every tile.
+-- The twelve marked cases, and those of the screen that ends inside its last column, hold of the definition of touching: the corner test is computed at every tile.
 use Prim.Native.Nat.{ℕ, zero, suc, _≤_, _<_}
 use mathlib.Core.Path.{_≡_, refl, subst}
 use mathlib.Core.Bool.{Bool, true, false, _&&_}
@@ -85,10 +85,14 @@ pub marked-cases : EachCase (λ m. TouchesOnly screen64 (m .shape) (m .tiles)) t
 unfolding all below right same bounds across near far
 marked-cases = each table tt
 
--- on a screen of 60 by 32 a point at (1000, 10) is listed in tile 3
-pub passing-the-glass : TouchesOnly screen60 (Point (at (pos 1000) (pos 10))) (3 ∷ [])
+-- on a screen of 60 by 32 a point at (1000, 10) is listed in no tile, and one at (960, 10) in tile 3
+pub past-the-glass : TouchesOnly screen60 (Point (at (pos 1000) (pos 10))) []
 unfolding below right same bounds across near far
-passing-the-glass = touches-only screen60 allowed60 (Point (at (pos 1000) (pos 10))) (3 ∷ []) tt
+past-the-glass = touches-only screen60 allowed60 (Point (at (pos 1000) (pos 10))) [] tt
+
+pub at-the-glass : TouchesOnly screen60 (Point (at (pos 960) (pos 10))) (3 ∷ [])
+unfolding below right same bounds across near far
+at-the-glass = touches-only screen60 allowed60 (Point (at (pos 960) (pos 10))) (3 ∷ []) tt
 
 -- the box of M9 has tile 7 too, and that of M11 tile 6
 pub box-of-M9 : Box M9 (rectangle screen64 7)

@@ -22,7 +22,7 @@ listed t (u ∷ us) = eqb t u || listed t us
 abbrev pub TouchesOnly : Screen → Shape → List ℕ → Type 0
 TouchesOnly d shape ts = (t : ℕ) → t < tiles d → Says (listed t ts) (Touches shape (rectangle d t))
 
--- 64 by 32 pixels, s = 4: four columns and two rows; and a screen whose last column passes the glass
+-- 64 by 32 pixels, s = 4: four columns and two rows; and a screen that ends inside its last column
 abbrev pub screen64 : Screen
 screen64 = record { width = 64; height = 32; s = 4 }
 

@@ -1,4 +1,4 @@
--- `screen::meeting` meets its contract. The two positive parts stand for the interval's ends, and the rest is naturals.
+-- `screen::meeting` meets its contract. The two positive parts stand for the interval's ends, and the rest is naturals. An interval past the glass meets no tile.
 use mathlib.Core.Path.{_≡_, ap, _∙_}
 use native.Mathlib.Omega.{arith}
 use lib.IntN.{ℤ, pos, negsuc, _+ℤ_}
@@ -23,11 +23,27 @@ more r = is-kept w32 tt (is-add (high r) (is-lit 1))
 positive-requires : tie.Need-positive-requires
 positive-requires c κs = search needs
 
+glass-requires : tie.Need-glass-requires
+glass-requires c κs = search needs
+
+returns : tie.Need-returns
+unfolding far
+returns c =
+    let s = c .before .before .before in
+    let m = c .before .before .positive .ensures ∙ ap up (is-arg w32 (s .fits .low) .same) in
+    let g = c .before .glass .ensures in
+    let t = c .if1 .taken in
+    record {
+      within = omega arith;
+      sound = λ k h. absurd (omega arith);
+      whole = λ k l h. absurd (omega (arith, up-le (s .args .low) (h .to)));
+    }
+
 first-reaching-requires : tie.Need-first-reaching-requires
 first-reaching-requires c κs = search needs
 
 add-positive : tie.Need-add-positive
-add-positive c = is-fits tt (is-add (high (c .before .before .pre .1)) (is-lit 1))
+add-positive c = is-fits tt (is-add (high (c .before .before .before .before .pre .1)) (is-lit 1))
 
 positive-requires-2 : tie.Need-positive-requires-2
 positive-requires-2 c κs = search needs
@@ -37,19 +53,22 @@ tiles-across-requires c κs = search needs
 
 beginning-before-requires : tie.Need-beginning-before-requires
 beginning-before-requires c κs =
-    let q = more (c .before .before .before .before .pre .1) in
+    let s = c .before .before .before .before .before .before in
+    let q = more (s .pre .1) in
     let p = c .before .positive2 .ensures ∙ ap up (q .same) in
-    (c .before .before .before .before .pre .0 .2, omega (arith, is-up q))
+    (s .pre .0 .2, omega (arith, is-up q))
 
-returns : tie.Need-returns
+returns-2 : tie.Need-returns-2
 unfolding near far
-returns c =
-    let s = c .before .before .before .before .before in
-    let m = c .before .before .before .before .positive .ensures ∙ ap up (is-arg w32 (s .fits .low) .same) in
+returns-2 c =
+    let s = c .before .before .before .before .before .before .before in
+    let m = c .before .before .before .before .before .before .positive .ensures ∙ ap up (is-arg w32 (s .fits .low) .same) in
     let p = c .before .before .positive2 .ensures ∙ ap up (more (s .pre .1) .same) in
     let f = c .before .before .before .first-reaching .ensures in
     let g = c .beginning-before .ensures in
     let n = c .before .tiles-across .ensures .0 in
+    let e = c .before .before .before .before .before .glass .ensures in
+    let l = c .before .before .before .before .if1 .left in
     record {
       within = omega (arith, g .0);
       sound = λ k h. record {
@@ -67,9 +86,11 @@ meeting-spec =
     tie.close
     (tie.spec
     positive-requires
+    glass-requires
+    returns
     first-reaching-requires
     add-positive
     positive-requires-2
     tiles-across-requires
     beginning-before-requires
-    returns)
+    returns-2)

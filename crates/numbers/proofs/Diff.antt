@@ -3,6 +3,7 @@ use mathlib.Core.Path.{_≡_, refl, sym, ap, subst}
 use mathlib.Core.Bool.{Bool, true, false, not, cond}
 use mathlib.Core.Logic.{_⊎_, inl, inr, ⊎-elim}
 use Prim.Native.Nat.{ℕ, zero, suc, _+_, _*_, _-_, _<_, _≤_}
+use native.Mathlib.Nat.{mul-le-mul-left}
 use native.Mathlib.Omega.{arith}
 use lib.Dec.{T, ltb, leb, ltb→lt, nltb→le, leb→le, lt→ltb, le→leb}
 use lib.IntN.{ℤ, pos, negsuc, negℤ, sucℤ, natAbs, subℕ, _+ℤ_, _-ℤ_, _*ℤ_, +ℤ-one}
@@ -177,3 +178,8 @@ pub ≤ℤ-or-< : (x y : ℤ) → (x ≤ℤ y) ⊎ (y <ℤ x)
     (λ h. inr (diff-lt (diff-any y) (diff-any x) h))
     (λ h. inl (diff-le (diff-any x) (diff-any y) h))
     (lt-or-ge (up y + up (negℤ x)) (up x + up (negℤ y)))
+
+pub times-rises : (n : ℕ) {x y : ℤ} → x ≤ℤ y → (pos n *ℤ x) ≤ℤ (pos n *ℤ y)
+times-rises n {x} {y} h =
+    let p = le-diff (diff-any x) (diff-any y) h in
+    diff-le (diff-mul (diff-pos n) (diff-any x)) (diff-mul (diff-pos n) (diff-any y)) (omega (arith, mul-le-mul-left n p))

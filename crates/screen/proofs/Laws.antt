@@ -1,19 +1,18 @@
 -- What may be known of tiles and their rectangles: numbers and places go back and forth, the sides are in order and rise, and along an axis each tile ends
 -- where the next begins, from 0 to where the screen ends.
-use mathlib.Core.Path.{_≡_, sym, ap, subst, _∙_}
-use mathlib.Core.Logic.{⊎-elim}
+use mathlib.Core.Path.{_≡_, sym, ap, _∙_}
 use Prim.Native.Nat.{ℕ, zero, suc, _+_, _*_, _-_, _/_, _%_, _^_, _≤_, _<_, min}
 use native.Mathlib.Nat.{mul-le-mul-left, mul-le-mul-right, div-add-mod, mod-lt, div-lt-iff-lt-mul}
 use native.Mathlib.Omega.{arith}
-use lib.IntN.{ℤ, pos, _*ℤ_}
+use lib.IntN.{pos}
 use lib.Signed.{_≤ℤ_, _<ℤ_}
 use lib.Pow.{pow-pos}
 use Rattle.numbers.specs.Ceil.{ceil}
-use Rattle.numbers.proofs.Diff.{diff-pos, diff-any, diff-mul, diff-eq, diff-le, diff-lt, ≤ℤ-trans, <ℤ-≤ℤ, ≤ℤ-or-<}
+use Rattle.numbers.proofs.Diff.{diff-pos, diff-le, diff-lt, ≤ℤ-trans, <ℤ-≤ℤ}
 use Rattle.numbers.proofs.Ceil.{same-mul, ceil-enough}
 use Rattle.screen.specs.declared.Screen.{Screen}
 use Rattle.screen.specs.Screen.{Allowed, across, columns, rows, tiles, columnOf, rowOf, tileAt}
-use Rattle.screen.specs.Rectangle.{side, near, far, rectangleAt, Proper, Meets}
+use Rattle.screen.specs.Rectangle.{side, near, far, rectangleAt, glass, Inside, Proper}
 use Rattle.screen.proofs.Sizes.{across≤, across≥, past-below}
 
 pos-le : {m n : ℕ} → m ≤ n → pos m ≤ℤ pos n
@@ -71,67 +70,17 @@ module _ (extent s : ℕ) where
     pub far≤ : far extent s k ≤ℤ pos 524288
     far≤ = ≤ℤ-trans (far≤glass k) (pos-le (omega arith))
 
--- ---- the tiles cover the axis without gap, at any scale
-
--- z lies from n times where tile k begins to n times where it ends
-pub record Lies (extent s n : ℕ) (z : ℤ) (k : ℕ) : Type 0 where
-  pub from : (pos n *ℤ near extent s k) ≤ℤ z
-  pub to : z ≤ℤ (pos n *ℤ far extent s k)
-
--- one of the tiles from first to last
-pub record LiesIn (extent s n : ℕ) (z : ℤ) (first last : ℕ) : Type 0 where
-  pub tile : ℕ
-  pub first≤ : first ≤ tile
-  pub ≤last : tile ≤ last
-  pub lies : Lies extent s n z tile
-
-module _ (extent s n : ℕ) (z : ℤ) where
-  along : (m first last : ℕ) → first + m ≡ last → last < across extent s
-      → (pos n *ℤ near extent s first) ≤ℤ z → z ≤ℤ (pos n *ℤ far extent s last) → LiesIn extent s n z first last
-  along zero first last e h l r =
-      record { tile = last; first≤ = omega arith; ≤last = omega arith; lies = record { from = subst (λ (k : ℕ). (pos n *ℤ near extent s k) ≤ℤ z) (omega arith) l; to = r } }
-  along (suc m) first last e h l r =
-      ⊎-elim
-      (λ (t : z ≤ℤ (pos n *ℤ far extent s first)). record { tile = first; first≤ = omega arith; ≤last = omega arith; lies = record { from = l; to = t } })
-      (λ (t : (pos n *ℤ far extent s first) <ℤ z). further (along m (first + 1) last (omega arith) h (subst (λ (y : ℤ). (pos n *ℤ y) ≤ℤ z) (far-near extent s first (omega arith)) (<ℤ-≤ℤ t)) r))
-      (≤ℤ-or-< z (pos n *ℤ far extent s first))
-    where
-      further : LiesIn extent s n z (first + 1) last → LiesIn extent s n z first last
-      further w = let f = w .first≤ in record { tile = w .tile; first≤ = omega arith; ≤last = w .≤last; lies = w .lies }
-
-  -- what lies from where the first begins to where the last ends lies in one of them
-  pub between-tiles : {first last : ℕ} → first ≤ last → last < across extent s
-      → (pos n *ℤ near extent s first) ≤ℤ z → z ≤ℤ (pos n *ℤ far extent s last) → LiesIn extent s n z first last
-  between-tiles {first} {last} h = along (last - first) first last (omega arith)
-
--- a number from 0 to where the screen ends lies in one of the tiles
-pub in-a-tile : (extent s : ℕ) → 1 ≤ extent → (z : ℤ) → pos 0 ≤ℤ z → z ≤ℤ pos (16 * extent) → (k : ℕ) × (k < across extent s) × Meets extent s z z k
-in-a-tile extent s e z l h =
-    let a = across≥ extent s e in
-    let f : LiesIn extent s 1 z 0 (across extent s - 1)
-    = between-tiles extent s 1 z (omega arith) (omega arith)
-    (subst (λ (y : ℤ). y ≤ℤ z) (sym (one-times (near extent s 0) ∙ near-first extent s)) l)
-    (subst (λ (y : ℤ). z ≤ℤ y) (sym (one-times (far extent s (across extent s - 1)) ∙ far-last extent s (across extent s - 1) (omega arith))) h) in
-    let last = f .≤last in (
-      f .tile,
-      omega arith,
-      record {
-        from = subst (λ (y : ℤ). y ≤ℤ z) (one-times (near extent s (f .tile))) (f .lies .from);
-        to = subst (λ (y : ℤ). z ≤ℤ y) (one-times (far extent s (f .tile))) (f .lies .to);
-      },
-    )
-  where
-    one-times : (y : ℤ) → pos 1 *ℤ y ≡ y
-    one-times y = diff-eq (diff-mul (diff-pos 1) (diff-any y)) (diff-any y) (omega arith)
-
--- and no other number does
-pub tile-within-the-glass : (extent s : ℕ) (z : ℤ) (k : ℕ) → Meets extent s z z k → (pos 0 ≤ℤ z) × (z ≤ℤ pos (16 * extent))
-tile-within-the-glass extent s z k m =
-    (≤ℤ-trans (subst (λ (y : ℤ). y ≤ℤ near extent s k) (near-first extent s) (near-rises extent s (omega arith))) (m .from), ≤ℤ-trans (m .to) (far≤glass extent s k))
-
 -- ---- the tiles of a screen
 
 module _ (d : Screen) (a : Allowed d) where
+  pub rectangle-on-the-glass : {column row : ℕ} → column < columns d → row < rows d → Inside (rectangleAt d column row) (glass d)
+  rectangle-on-the-glass {column} {row} hc hr = record {
+    left = near≥ (d .width) (d .s) (a .width≤) (a .s≥) (a .s≤) hc;
+    right = far≤glass (d .width) (d .s) column;
+    top = near≥ (d .height) (d .s) (a .height≤) (a .s≥) (a .s≤) hr;
+    bottom = far≤glass (d .height) (d .s) row;
+  }
+
   pub rectangle-proper : {column row : ℕ} → column < columns d → row < rows d → Proper (rectangleAt d column row)
   rectangle-proper hc hr = record {
     left≥ = near≥ (d .width) (d .s) (a .width≤) (a .s≥) (a .s≤) hc;

@@ -1,3 +1,4 @@
 pub mod Spans
 pub mod Sizes
 pub mod Laws
+pub mod Axis

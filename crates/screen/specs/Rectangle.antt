@@ -32,6 +32,23 @@ rectangleAt d column row =
 abbrev pub rectangle : Screen → ℕ → Rectangle
 rectangle d t = rectangleAt d (columnOf d t) (rowOf d t)
 
+-- the glass: the whole screen
+abbrev pub glass : Screen → Rectangle
+glass d =
+    record {
+      left = pos 0;
+      right = pos (16 * d .width);
+      top = pos 0;
+      bottom = pos (16 * d .height);
+    }
+
+-- the first of two rectangles lies within the second
+pub record Inside (p q : Rectangle) : Type 0 where
+  pub left : q .left ≤ℤ p .left
+  pub right : p .right ≤ℤ q .right
+  pub top : q .top ≤ℤ p .top
+  pub bottom : p .bottom ≤ℤ q .bottom
+
 -- a rectangle whose sides are in order, none negative and none past 524,288: all that the geometry may assume of a tile's
 pub record Proper (q : Rectangle) : Type 0 where
   pub left≥ : pos 0 ≤ℤ q .left

@@ -121,6 +121,13 @@ pub fn row_of(screen: Screen, tile: Tile) -> u32
     number / columns_of(screen)
 }
 
+// The lesser of two numbers.
+fn lesser(x: u32, y: u32) -> u32
+    ensures { λ r. ⌜ r ≡ min x y ⌝ }
+{
+    if x < y { x } else { y }
+}
+
 // T, the side of a tile in units.
 fn side_of(s: u32) -> u32
     requires { ⌜ s ≤ 6 ⌝ }
@@ -138,11 +145,19 @@ fn sides_in(x: u32, s: u32) -> u32
 }
 
 // k sides of a tile, in units.
-fn sides(k: u32, s: u32) -> i64
+fn sides(k: u32, s: u32) -> u32
     requires { ⌜ (k ≤ 512) × (s ≤ 6) ⌝ }
-    ensures { λ r. ⌜ r ≡ pos (k * side s) ⌝ }
+    ensures { λ r. ⌜ (r ≡ k * side s) × (r ≤ 524288) ⌝ }
 {
-    (k * side_of(s)) as i64
+    k * side_of(s)
+}
+
+// Where the glass ends along an axis of that extent.
+fn glass_end(extent: u32) -> u32
+    requires { ⌜ extent ≤ 4096 ⌝ }
+    ensures { λ r. ⌜ r ≡ 16 * extent ⌝ }
+{
+    16 * extent
 }
 
 // Where tile k along an axis of that extent begins.
@@ -150,22 +165,7 @@ pub fn near_side(extent: u32, s: u32, k: u32) -> i64
     requires { ⌜ (extent ≤ 4096) × (3 ≤ s) × (s ≤ 6) × (k < across extent s) ⌝ }
     ensures { λ r. ⌜ r ≡ near extent s k ⌝ }
 {
-    sides(k, s)
-}
-
-// The lesser of two numbers.
-fn lesser(x: u32, y: u32) -> u32
-    ensures { λ r. ⌜ r ≡ min x y ⌝ }
-{
-    if x < y { x } else { y }
-}
-
-// An extent in units: where the screen ends along that axis.
-fn glass(extent: u32) -> u32
-    requires { ⌜ extent ≤ 4096 ⌝ }
-    ensures { λ r. ⌜ r ≡ 16 * extent ⌝ }
-{
-    16 * extent
+    sides(k, s) as i64
 }
 
 // Where tile k along an axis of that extent ends.
@@ -173,7 +173,7 @@ pub fn far_side(extent: u32, s: u32, k: u32) -> i64
     requires { ⌜ (extent ≤ 4096) × (3 ≤ s) × (s ≤ 6) × (k < across extent s) ⌝ }
     ensures { λ r. ⌜ r ≡ far extent s k ⌝ }
 {
-    lesser((k + 1) * side_of(s), glass(extent)) as i64
+    lesser(sides(k + 1, s), glass_end(extent)) as i64
 }
 
 // The closed rectangle of the tile in a column and a row.
@@ -217,8 +217,7 @@ fn beginning_before(m: u32, s: u32, n: u32) -> u32
     ensures before { λ r. ⌜ ((k : ℕ) → k < r → k * side s < m) ⌝ }
     ensures all { λ r. ⌜ ((k : ℕ) → k < n → k * side s < m → k < r) ⌝ }
 {
-    let count = sides_in(m + (side_of(s) - 1), s);
-    if count < n { count } else { n }
+    lesser(sides_in(m + (side_of(s) - 1), s), n)
 }
 
 // The tiles along an axis of that extent that meet the closed interval from low to high.
@@ -228,7 +227,7 @@ pub fn meeting(extent: u32, s: u32, low: i32, high: i32) -> Span
     ensures { λ r. ⌜ Meeting extent s low high r ⌝ }
 {
     let from = positive(low);
-    if glass(extent) < from {
+    if glass_end(extent) < from {
         return Span { start: 0, end: 0 };
     }
     let start = first_reaching(from, s);

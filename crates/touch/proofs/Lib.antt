@@ -7,6 +7,7 @@ pub mod Bias
 pub mod Weights
 pub mod Theorem
 pub mod Gaps
+pub mod Glass
 pub mod Answers
 pub mod Marked
 pub mod Sizes

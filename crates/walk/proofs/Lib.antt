@@ -1,4 +1,5 @@
 pub mod Lists
 pub mod Touched
 pub mod Exists
+pub mod Glass
 pub mod Grid

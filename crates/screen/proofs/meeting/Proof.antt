@@ -23,15 +23,15 @@ more r = is-kept w32 tt (is-add (high r) (is-lit 1))
 positive-requires : tie.Need-positive-requires
 positive-requires c κs = search needs
 
-glass-requires : tie.Need-glass-requires
-glass-requires c κs = search needs
+glass-end-requires : tie.Need-glass-end-requires
+glass-end-requires c κs = search needs
 
 returns : tie.Need-returns
 unfolding far
 returns c =
     let s = c .before .before .before in
     let m = c .before .before .positive .ensures ∙ ap up (is-arg w32 (s .fits .low) .same) in
-    let g = c .before .glass .ensures in
+    let g = c .before .glass-end .ensures in
     let t = c .if1 .taken in
     record {
       within = omega arith;
@@ -67,7 +67,7 @@ returns-2 c =
     let f = c .before .before .before .first-reaching .ensures in
     let g = c .beginning-before .ensures in
     let n = c .before .tiles-across .ensures .0 in
-    let e = c .before .before .before .before .before .glass .ensures in
+    let e = c .before .before .before .before .before .glass-end .ensures in
     let l = c .before .before .before .before .if1 .left in
     record {
       within = omega (arith, g .0);
@@ -86,7 +86,7 @@ meeting-spec =
     tie.close
     (tie.spec
     positive-requires
-    glass-requires
+    glass-end-requires
     returns
     first-reaching-requires
     add-positive

@@ -1,5 +1,5 @@
--- The closed tiles along an axis cover it from 0 to where the screen ends, and nothing else. All of it is since each tile ends where the next begins, and so holds
--- at any scale.
+-- The closed tiles along an axis cover it from 0 to where the screen ends, and nothing else. All that is needed is that each tile ends where the next begins, so
+-- this holds at any scale.
 use mathlib.Core.Path.{_≡_, sym, subst, _∙_}
 use mathlib.Core.Logic.{⊎-elim}
 use Prim.Native.Nat.{ℕ, zero, suc, _+_, _*_, _-_, _≤_, _<_}

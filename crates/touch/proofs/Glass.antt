@@ -7,9 +7,9 @@ use native.Mathlib.Omega.{arith}
 use Rattle.numbers.proofs.Diff.{≤ℤ-trans, times-rises}
 use Rattle.screen.specs.declared.Rectangle.{Rectangle}
 use Rattle.screen.specs.declared.Screen.{Screen}
-use Rattle.screen.specs.Screen.{Allowed, columns, rows, tiles, columnOf, rowOf, tileAt}
+use Rattle.screen.specs.Screen.{Allowed, columns, rows, tiles, tileAt}
 use Rattle.screen.specs.Rectangle.{near, far, rectangleAt, rectangle, glass, Inside}
-use Rattle.screen.proofs.Laws.{near-rises, far-rises, near-first, far-last, columns≥, rows≥, column<, row<, column-is, row-is, tile<}
+use Rattle.screen.proofs.Laws.{near-rises, far-rises, near-first, far-last, rectangle-on-the-glass, columns≥, rows≥, column<, row<, column-is, row-is, tile<}
 use Rattle.screen.proofs.Axis.{LiesIn, between-tiles}
 use Rattle.shape.specs.declared.Shape.{Shape}
 use Rattle.shape.specs.Shape.{vertices}
@@ -114,14 +114,10 @@ module _ (d : Screen) (a : Allowed d) where
 
   -- a shape touches a tile exactly if it has a point on the glass
   pub on-the-glass : (shape : Shape) → Touches shape (glass d) ↔ ((t : ℕ) × (t < tiles d) × Touches shape (rectangle d t))
-  on-the-glass shape =
-      let c = columns≥ d a in
-      let r = rows≥ d a in
-      let all : Touches shape (together d 0 (columns d - 1) 0 (rows d - 1)) ↔ SomeTouched d shape 0 (columns d - 1) 0 (rows d - 1)
-      = together-touched d shape (omega arith) (omega arith) (omega arith) (omega arith) in (
-        (λ h. tile-of (all .0 (subst (Touches shape) (sym all-tiles) h))),
-        (λ h. subst (Touches shape) all-tiles (all .1 (some-of h))),
-      )
+  on-the-glass shape = (
+    (λ h. tile-of (some-of-together d shape (omega arith) (omega (arith, columns≥ d a)) (omega arith) (omega (arith, rows≥ d a)) (subst (Touches shape) (sym all-tiles) h))),
+    (λ h. wider (rectangle-on-the-glass d a (column< d a (h .0)) (row< d a (h .0) (h .1))) (h .2)),
+  )
     where
       tile-of : SomeTouched d shape 0 (columns d - 1) 0 (rows d - 1) → (t : ℕ) × (t < tiles d) × Touches shape (rectangle d t)
       tile-of s =
@@ -135,17 +131,3 @@ module _ (d : Screen) (a : Allowed d) where
             tile< d a c r,
             subst (Touches shape) (λ i. rectangleAt d (sym (column-is d a (s .column) (s .row) c) i) (sym (row-is d a (s .column) (s .row) c) i)) (s .touched),
           )
-
-      some-of : ((t : ℕ) × (t < tiles d) × Touches shape (rectangle d t)) → SomeTouched d shape 0 (columns d - 1) 0 (rows d - 1)
-      some-of h =
-          let c = column< d a (h .0) in
-          let r = row< d a (h .0) (h .1) in
-          record {
-            column = columnOf d (h .0);
-            row = rowOf d (h .0);
-            column≥ = omega arith;
-            column≤ = omega arith;
-            row≥ = omega arith;
-            row≤ = omega arith;
-            touched = h .2;
-          }

@@ -144,14 +144,16 @@ static void point_at(uint32_t width, uint32_t height, uint32_t s, uint32_t tile,
 {
     const float x_pixels = (float)x / 16.0f, y_pixels = (float)y / 16.0f;
     const uint32_t read = touches ? FLOURSCOOP_DONE : FLOURSCOOP_NO_PLACE;
-    expect("box", flourscoop_box_point(width, height, s, tile, x, y, &value), FLOURSCOOP_DONE, touches, 0);
-    expect("corner", flourscoop_corner_point(width, height, s, tile, x, y, &value), FLOURSCOOP_DONE, touches, 0);
-    expect("open", flourscoop_open(cut, CUT_WORDS, width, height, s, 1), FLOURSCOOP_DONE, 0, 0);
-    expect("bin", flourscoop_bin_point(cut, CUT_WORDS, 5, x, y, &value, &other), FLOURSCOOP_DONE, touches, touches);
-    expect("read", flourscoop_read(cut, CUT_WORDS, tile, 0, &value), read, 5 * touches, 0);
-    expect("bin in pixels", flourscoop_bin_pixels_point(cut, CUT_WORDS, 6, x_pixels, y_pixels, &value, &other),
-           FLOURSCOOP_DONE, touches, 0);
-    expect("read", flourscoop_read(cut, CUT_WORDS, tile, 1, &value), read, 6 * touches, 0);
+    char name[64];
+    snprintf(name, sizeof name, "(%d,%d) on %u by %u with s = %u", x, y, width, height, s);
+    expect(name, flourscoop_box_point(width, height, s, tile, x, y, &value), FLOURSCOOP_DONE, touches, 0);
+    expect(name, flourscoop_corner_point(width, height, s, tile, x, y, &value), FLOURSCOOP_DONE, touches, 0);
+    expect(name, flourscoop_open(cut, CUT_WORDS, width, height, s, 1), FLOURSCOOP_DONE, 0, 0);
+    expect(name, flourscoop_bin_point(cut, CUT_WORDS, 5, x, y, &value, &other), FLOURSCOOP_DONE, touches, touches);
+    expect(name, flourscoop_read(cut, CUT_WORDS, tile, 0, &value), read, 5 * touches, 0);
+    expect(name, flourscoop_bin_pixels_point(cut, CUT_WORDS, 6, x_pixels, y_pixels, &value, &other), FLOURSCOOP_DONE,
+           touches, 0);
+    expect(name, flourscoop_read(cut, CUT_WORDS, tile, 1, &value), read, 6 * touches, 0);
 }
 
 /* Tiles end where the screen ends: 60 by 28 pixels at 960 and 448, one pixel at 16, whatever s is. */

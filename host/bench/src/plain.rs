@@ -1,6 +1,8 @@
 //! A plain binner to compare with: a vector for each tile, and the same corner test. It refuses nothing, and there is
 //! nothing to audit.
 
+use std::ops::Range;
+
 use flourscoop::{Screen, Shape, Vertex};
 
 pub struct Plain {
@@ -9,25 +11,34 @@ pub struct Plain {
     pub lists: Vec<Vec<u32>>,
 }
 
-/// An axis of the screen: the side of a tile, how many tiles there are, and where the screen ends.
+/// An axis of the screen: a tile's full side, how many tiles there are, how many of them are whole, and where the screen
+/// ends.
 struct Axis {
     side: i64,
     tiles: i64,
+    whole: i64,
     end: i64,
 }
 
 impl Axis {
     fn of(extent: u32, s: u32) -> Axis {
-        Axis { side: 16 << s, tiles: i64::from(extent.div_ceil(1 << s)), end: 16 * i64::from(extent) }
+        let (tiles, whole) = (extent.div_ceil(1 << s), extent >> s);
+        Axis { side: 16 << s, tiles: tiles.into(), whole: whole.into(), end: 16 * i64::from(extent) }
     }
 
-    /// Where a tile begins and where it ends.
-    fn ends(&self, tile: i64) -> [i64; 2] {
-        [tile * self.side, ((tile + 1) * self.side).min(self.end)]
+    /// How long a tile is: a full side, or as far as the screen goes.
+    fn length(&self, tile: i64) -> i64 {
+        self.side.min(self.end - tile * self.side)
+    }
+
+    /// The whole tiles of a range and the one that the screen cuts, each with the length: one length in a loop is faster.
+    fn by_length(&self, tiles: Range<i64>) -> [(Range<i64>, i64); 2] {
+        let Range { start, end } = tiles;
+        [(start..end.min(self.whole), self.side), (start.max(self.whole)..end, self.length(self.whole))]
     }
 
     /// The tiles that meet the box of these coordinates.
-    fn meeting(&self, along: [i32; 3]) -> std::ops::Range<i64> {
+    fn meeting(&self, along: [i32; 3]) -> Range<i64> {
         let low = i64::from(along.into_iter().min().unwrap());
         let high = i64::from(along.into_iter().max().unwrap());
         if self.end < low {
@@ -53,9 +64,9 @@ fn edge(a: Vertex, b: Vertex, x: i64, y: i64) -> i64 {
 }
 
 /// Whether all four corners of a tile lie strictly on the outer side of one of the edges.
-fn apart(v: [Vertex; 3], [left, right]: [i64; 2], [top, bottom]: [i64; 2]) -> bool {
+fn apart(v: [Vertex; 3], left: i64, top: i64, wide: i64, high: i64) -> bool {
     let area = edge(v[0], v[1], i64::from(v[2].x), i64::from(v[2].y));
-    let corners = [(left, top), (right, top), (left, bottom), (right, bottom)];
+    let corners = [(left, top), (left + wide, top), (left, top + high), (left + wide, top + high)];
     [(v[0], v[1]), (v[1], v[2]), (v[2], v[0])].into_iter().any(|(a, b)| {
         let values = corners.map(|(x, y)| edge(a, b, x, y));
         let below = values.iter().all(|&value| value < 0);
@@ -74,12 +85,14 @@ impl Plain {
         let v = vertices(shape);
         let (columns, rows) = (self.x.meeting(v.map(|v| v.x)), self.y.meeting(v.map(|v| v.y)));
         let mut listed = 0;
-        for row in rows {
-            let top_and_bottom = self.y.ends(row);
-            for column in columns.clone() {
-                if !apart(v, self.x.ends(column), top_and_bottom) {
-                    self.lists[(row * self.x.tiles + column) as usize].push(id);
-                    listed += 1;
+        for (columns, wide) in self.x.by_length(columns) {
+            for row in rows.clone() {
+                let (top, high) = (row * self.y.side, self.y.length(row));
+                for column in columns.clone() {
+                    if !apart(v, column * self.x.side, top, wide, high) {
+                        self.lists[(row * self.x.tiles + column) as usize].push(id);
+                        listed += 1;
+                    }
                 }
             }
         }

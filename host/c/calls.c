@@ -1,5 +1,5 @@
-/* Every call by include/flourscoop.h, from C or C++: document 01's pool case, and one answer and one refusal of each; the
-   header's room, texts and version. */
+/* Every call by include/flourscoop.h, from C or C++: document 01's pool case, and one answer and one refusal of each; tiles
+   that the screen cuts; the header's room, texts and version. */
 #include <math.h>
 #include <stdio.h>
 #include <string.h>
@@ -7,8 +7,9 @@
 #include "flourscoop.h"
 
 enum { WIDTH = 64, HEIGHT = 32, S = 4, BLOCKS = 2, WORDS = FLOURSCOOP_ROOM(WIDTH, HEIGHT, S, BLOCKS) };
+enum { CUT_WORDS = FLOURSCOOP_ROOM(60, 28, S, 1) };
 
-static uint32_t pool[WORDS], kept[WORDS];
+static uint32_t pool[WORDS], kept[WORDS], cut[CUT_WORDS];
 static uint32_t value, other;
 static int passed, failed;
 
@@ -138,6 +139,55 @@ static void questions(void)
            FLOURSCOOP_DONE, 0, 0);
 }
 
+/* A point, by both questions and binned in units and in pixels: it should touch this tile alone, or none. */
+static void point_at(uint32_t width, uint32_t height, uint32_t s, uint32_t tile, int32_t x, int32_t y, uint32_t touches)
+{
+    const float x_pixels = (float)x / 16.0f, y_pixels = (float)y / 16.0f;
+    const uint32_t read = touches ? FLOURSCOOP_DONE : FLOURSCOOP_NO_PLACE;
+    char name[64];
+    snprintf(name, sizeof name, "(%d,%d) on %u by %u with s = %u", x, y, width, height, s);
+    expect(name, flourscoop_box_point(width, height, s, tile, x, y, &value), FLOURSCOOP_DONE, touches, 0);
+    expect(name, flourscoop_corner_point(width, height, s, tile, x, y, &value), FLOURSCOOP_DONE, touches, 0);
+    expect(name, flourscoop_open(cut, CUT_WORDS, width, height, s, 1), FLOURSCOOP_DONE, 0, 0);
+    expect(name, flourscoop_bin_point(cut, CUT_WORDS, 5, x, y, &value, &other), FLOURSCOOP_DONE, touches, touches);
+    expect(name, flourscoop_read(cut, CUT_WORDS, tile, 0, &value), read, 5 * touches, 0);
+    expect(name, flourscoop_bin_pixels_point(cut, CUT_WORDS, 6, x_pixels, y_pixels, &value, &other), FLOURSCOOP_DONE,
+           touches, 0);
+    expect(name, flourscoop_read(cut, CUT_WORDS, tile, 1, &value), read, 6 * touches, 0);
+}
+
+/* Tiles end where the screen ends: 60 by 28 pixels at 960 and 448, one pixel at 16, whatever s is. */
+static void ends(void)
+{
+    point_at(60, 32, S, 3, 960, 10, 1);
+    point_at(60, 32, S, 3, 1000, 10, 0);
+    point_at(60, 28, S, 7, 960, 448, 1);
+    point_at(60, 28, S, 7, 961, 448, 0);
+    point_at(60, 28, S, 7, 960, 449, 0);
+    point_at(60, 28, S, 7, 1000, 500, 0);
+    for (uint32_t s = 3; s <= 6; s++) {
+        point_at(1, 1, s, 0, 16, 16, 1);
+        point_at(1, 1, s, 0, 17, 16, 0);
+        point_at(1, 1, s, 0, 16, 17, 0);
+    }
+
+    /* 960.5 units go to 960, which is even, and 961 lie past the end */
+    expect("open", flourscoop_open(cut, CUT_WORDS, 60, 28, S, 1), FLOURSCOOP_DONE, 0, 0);
+    expect("60.03125", flourscoop_bin_pixels_point(cut, CUT_WORDS, 1, 60.03125f, 28, &value, &other), FLOURSCOOP_DONE, 1,
+           1);
+    expect("60.0625", flourscoop_bin_pixels_point(cut, CUT_WORDS, 1, 60.0625f, 28, &value, &other), FLOURSCOOP_DONE, 0,
+           0);
+    /* a line through the corner, and one a unit past it, whose box the tile meets */
+    expect("line", flourscoop_corner_line(60, 28, S, 7, 952, 456, 968, 440, &value), FLOURSCOOP_DONE, 1, 0);
+    expect("line", flourscoop_bin_line(cut, CUT_WORDS, 1, 952, 456, 968, 440, &value, &other), FLOURSCOOP_DONE, 1, 0);
+    expect("line", flourscoop_box_line(60, 28, S, 7, 953, 456, 969, 440, &value), FLOURSCOOP_DONE, 1, 0);
+    expect("line", flourscoop_corner_line(60, 28, S, 7, 953, 456, 969, 440, &value), FLOURSCOOP_DONE, 0, 0);
+    expect("line", flourscoop_bin_line(cut, CUT_WORDS, 1, 953, 456, 969, 440, &value, &other), FLOURSCOOP_DONE, 0, 0);
+    /* a triangle in what the screen cuts off */
+    expect("triangle", flourscoop_bin_triangle(cut, CUT_WORDS, 1, 970, 300, 1020, 300, 970, 500, &value, &other),
+           FLOURSCOOP_DONE, 0, 0);
+}
+
 /* One refusal of each number. */
 static void refusals(void)
 {
@@ -199,6 +249,7 @@ int main(void)
     units();
     questions();
     refusals();
+    ends();
     rooms();
     texts();
     printf("%s: %d passed, %d failed\n", language, passed, failed);

@@ -18,19 +18,20 @@
  *   Calls on different pools are independent and may run at the same time. Calls on one pool must not overlap; two calls
  *   of which each only audits or reads may. Calls that take no pool may always run.
  *
- * STACK, in bytes, as measured; of bin's, 16,384 list the touched tiles
+ * STACK, in bytes, as measured, on Arm of version 0.1.0; of bin's, 16,384 list the touched tiles
  *               bin      audit   read    release   corner   box   open   unit
- *     x86-64    17,232   2,240   2,272   2,272     336      176   64     16
+ *     x86-64    17,296   2,240   2,272   2,272     352      192   64     16
  *     Arm       17,104   2,256   2,304   2,288     240      160   64     not measured
  *
  * SCREEN AND UNITS
- *   A screen has a width and a height of 1 to 4,096 pixels. A tile is a square of 2^s by 2^s pixels, s from 3 to 6.
- *   Columns are the width divided by the tile's side, rounded up; rows likewise with the height. There are at most 4,096
- *   tiles, numbered from 0, row by row from the top left.
+ *   A screen has a width and a height of 1 to 4,096 pixels. A tile is a square of 2^s by 2^s pixels, s from 3 to 6, cut
+ *   off where the screen ends. Columns are the width divided by 2^s, rounded up; rows likewise with the height. There are
+ *   at most 4,096 tiles, numbered from 0, row by row from the top left.
  *   A unit is a sixteenth of a pixel; x to the right, y down. A vertex has x and y from -262,144 to 262,143 units, so it
- *   may lie off the screen. With T = 16 * 2^s, the tile in column c and row r is the closed square from c*T to (c+1)*T
- *   and from r*T to (r+1)*T: a shape that only meets a side or a corner touches the tile. The last column and row keep
- *   full squares where the screen ends inside them.
+ *   may lie off the screen. With T = 16 * 2^s, the tile in column c and row r is the closed rectangle from c*T to the
+ *   lesser of (c+1)*T and 16*width, and from r*T to the lesser of (r+1)*T and 16*height: a shape that only meets a side or
+ *   a corner touches the tile. The tiles cover the screen, from 0 to 16*width and from 0 to 16*height, ends included, and
+ *   nothing past it: a shape that has no point there is accepted and listed nowhere.
  *   Vertices may come in any order and may coincide; a triangle without area is its longest side, a line without length
  *   its point.
  *
@@ -75,9 +76,9 @@ extern "C" {
 
 /* The version of this header, and of the archive that goes with it. */
 #define FLOURSCOOP_VERSION_MAJOR 0
-#define FLOURSCOOP_VERSION_MINOR 1
+#define FLOURSCOOP_VERSION_MINOR 2
 #define FLOURSCOOP_VERSION_PATCH 0
-#define FLOURSCOOP_VERSION "0.1.0"
+#define FLOURSCOOP_VERSION "0.2.0"
 
 /* The numbers; their texts follow. Where several causes apply, each call's comment has the order of looking for them. */
 #define FLOURSCOOP_DONE 0u

@@ -1,13 +1,51 @@
 //! A plain binner to compare with: a vector for each tile, and the same corner test. It refuses nothing, and there is
 //! nothing to audit.
 
+use std::ops::Range;
+
 use flourscoop::{Screen, Shape, Vertex};
 
 pub struct Plain {
-    side: i64,
-    columns: i64,
-    rows: i64,
+    x: Axis,
+    y: Axis,
     pub lists: Vec<Vec<u32>>,
+}
+
+/// An axis of the screen: a tile's full side, how many tiles there are, how many of them are whole, and where the screen
+/// ends.
+struct Axis {
+    side: i64,
+    tiles: i64,
+    whole: i64,
+    end: i64,
+}
+
+impl Axis {
+    fn of(extent: u32, s: u32) -> Axis {
+        let (tiles, whole) = (extent.div_ceil(1 << s), extent >> s);
+        Axis { side: 16 << s, tiles: tiles.into(), whole: whole.into(), end: 16 * i64::from(extent) }
+    }
+
+    /// How long a tile is: a full side, or as far as the screen goes.
+    fn length(&self, tile: i64) -> i64 {
+        self.side.min(self.end - tile * self.side)
+    }
+
+    /// The whole tiles of a range and the one that the screen cuts, each with the length: one length in a loop is faster.
+    fn by_length(&self, tiles: Range<i64>) -> [(Range<i64>, i64); 2] {
+        let Range { start, end } = tiles;
+        [(start..end.min(self.whole), self.side), (start.max(self.whole)..end, self.length(self.whole))]
+    }
+
+    /// The tiles that meet the box of these coordinates.
+    fn meeting(&self, along: [i32; 3]) -> Range<i64> {
+        let low = i64::from(along.into_iter().min().unwrap());
+        let high = i64::from(along.into_iter().max().unwrap());
+        if self.end < low {
+            return 0..0;
+        }
+        (low - 1).div_euclid(self.side).max(0)..(high.div_euclid(self.side) + 1).min(self.tiles)
+    }
 }
 
 /// The vertices of a shape, the last one again where it has fewer than three.
@@ -26,9 +64,9 @@ fn edge(a: Vertex, b: Vertex, x: i64, y: i64) -> i64 {
 }
 
 /// Whether all four corners of a tile lie strictly on the outer side of one of the edges.
-fn apart(v: [Vertex; 3], left: i64, top: i64, side: i64) -> bool {
+fn apart(v: [Vertex; 3], left: i64, top: i64, wide: i64, high: i64) -> bool {
     let area = edge(v[0], v[1], i64::from(v[2].x), i64::from(v[2].y));
-    let corners = [(left, top), (left + side, top), (left, top + side), (left + side, top + side)];
+    let corners = [(left, top), (left + wide, top), (left, top + high), (left + wide, top + high)];
     [(v[0], v[1]), (v[1], v[2]), (v[2], v[0])].into_iter().any(|(a, b)| {
         let values = corners.map(|(x, y)| edge(a, b, x, y));
         let below = values.iter().all(|&value| value < 0);
@@ -39,31 +77,26 @@ fn apart(v: [Vertex; 3], left: i64, top: i64, side: i64) -> bool {
 
 impl Plain {
     pub fn open(screen: Screen) -> Plain {
-        let across = |extent: u32| i64::from(extent.div_ceil(1 << screen.s));
-        let (columns, rows) = (across(screen.width), across(screen.height));
-        Plain { side: 16 << screen.s, columns, rows, lists: vec![Vec::new(); (columns * rows) as usize] }
+        let (x, y) = (Axis::of(screen.width, screen.s), Axis::of(screen.height, screen.s));
+        Plain { lists: vec![Vec::new(); (x.tiles * y.tiles) as usize], x, y }
     }
 
     pub fn bin(&mut self, id: u32, shape: Shape<Vertex>) -> usize {
         let v = vertices(shape);
-        let (columns, rows) = (self.meeting(v.map(|v| v.x), self.columns), self.meeting(v.map(|v| v.y), self.rows));
+        let (columns, rows) = (self.x.meeting(v.map(|v| v.x)), self.y.meeting(v.map(|v| v.y)));
         let mut listed = 0;
-        for row in rows {
-            for column in columns.clone() {
-                if !apart(v, column * self.side, row * self.side, self.side) {
-                    self.lists[(row * self.columns + column) as usize].push(id);
-                    listed += 1;
+        for (columns, wide) in self.x.by_length(columns) {
+            for row in rows.clone() {
+                let (top, high) = (row * self.y.side, self.y.length(row));
+                for column in columns.clone() {
+                    if !apart(v, column * self.x.side, top, wide, high) {
+                        self.lists[(row * self.x.tiles + column) as usize].push(id);
+                        listed += 1;
+                    }
                 }
             }
         }
         listed
-    }
-
-    /// The tiles along an axis that meet the box of these coordinates.
-    fn meeting(&self, along: [i32; 3], tiles: i64) -> std::ops::Range<i64> {
-        let low = i64::from(along.into_iter().min().unwrap());
-        let high = i64::from(along.into_iter().max().unwrap());
-        (low - 1).div_euclid(self.side).max(0)..(high.div_euclid(self.side) + 1).min(tiles)
     }
 
     pub fn read(&self, tile: u32, place: u32) -> Option<u32> {
@@ -79,4 +112,24 @@ impl Plain {
 pub fn unit(v: f32) -> Option<i32> {
     let scaled = (v * 16.0).round_ties_even();
     (-262_144.0..=262_143.0).contains(&scaled).then_some(scaled as i32)
+}
+
+#[cfg(test)]
+mod tests {
+    use super::*;
+    use flourscoop::{raw, room};
+
+    /// Lines around (960,448), where the last tile ends, are listed as the archive lists them.
+    #[test]
+    fn a_tile_ends_where_the_screen_ends() {
+        let screen = Screen { width: 60, height: 28, s: 4 };
+        let (mut words, mut plain) = (vec![0; room(screen, 16).unwrap()], Plain::open(screen));
+        raw::open(&mut words, screen, 16).done().unwrap();
+        for (x, y) in (950..970).flat_map(|x| (440..460).map(move |y| (x, y))) {
+            let line = Shape::Line(Vertex { x, y }, Vertex { x: x + 8, y: y - 8 });
+            let [tiles, _] = raw::bin(&mut words, 1, line).done().unwrap();
+            assert_eq!(plain.bin(1, line), tiles as usize, "{line:?}");
+        }
+        assert!((100..300).contains(&plain.lists[7].len()));
+    }
 }

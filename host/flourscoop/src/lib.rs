@@ -26,6 +26,19 @@ mod refusal;
 pub use refusal::Refusal;
 
 /// A screen of `width` by `height` pixels with tiles of 2^`s` by 2^`s` pixels, numbered row by row from the top left.
+///
+/// All four sides belong to a tile, and it ends where the screen ends: with T = 16·2^`s` units, its right side is the
+/// smaller of (c+1)·T and 16·`width`, its bottom likewise with the `height`. A shape past these ends is in no tile.
+///
+/// ```
+/// use flourscoop::{corner_touches, Screen, Shape, Vertex};
+///
+/// // tile 3 would reach to 1024, and 60 pixels are 960 units
+/// let screen = Screen { width: 60, height: 32, s: 4 };
+/// let in_tile_3 = |x| corner_touches(screen, 3, Shape::Point(Vertex { x, y: 10 }));
+/// assert_eq!(in_tile_3(960), Ok(true));
+/// assert_eq!(in_tile_3(1000), Ok(false));
+/// ```
 #[derive(Clone, Copy, PartialEq, Eq, Debug)]
 pub struct Screen {
     pub width: u32,
@@ -130,7 +143,8 @@ impl<'a> Pool<'a> {
         raw::audit(self.words).done().is_ok()
     }
 
-    /// Appends the id to the list of each tile that the shape touches, or changes nothing.
+    /// Appends the id to the list of each tile that the shape touches, or changes nothing. A shape off the screen is
+    /// accepted, and touches none.
     pub fn bin(&mut self, id: u32, shape: Shape<Vertex>) -> Result<Binned, Refusal> {
         raw::bin(self.words, id, shape).done().map(Binned::from)
     }
@@ -161,12 +175,12 @@ pub fn unit(v: f32) -> Result<i32, Refusal> {
     raw::unit(v).done().map(|[unit]| unit as i32)
 }
 
-/// Whether a tile of a screen meets the shape's bounding box.
+/// Whether a tile of a screen, as the screen cuts it, meets the shape's bounding box.
 pub fn box_touches(screen: Screen, tile: u32, shape: Shape<Vertex>) -> Result<bool, Refusal> {
     raw::box_touches(screen, tile, shape).done().map(|[touches]| touches == 1)
 }
 
-/// Whether the shape touches a tile of a screen.
+/// Whether the shape touches a tile of a screen, as the screen cuts it.
 pub fn corner_touches(screen: Screen, tile: u32, shape: Shape<Vertex>) -> Result<bool, Refusal> {
     raw::corner_touches(screen, tile, shape).done().map(|[touches]| touches == 1)
 }

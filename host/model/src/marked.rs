@@ -1,4 +1,4 @@
-//! The twelve marked cases.
+//! The twelve marked cases, and cases where the screen ends inside its last tiles.
 
 use crate::screen::Screen;
 use crate::Vertex;
@@ -35,5 +35,64 @@ pub const MARKED: [Marked; 12] = [
         &[[-1000, -1000], [5000, -1000], [-1000, 5000]],
         &[0, 1, 2, 3, 4, 5, 6, 7],
         &[0, 1, 2, 3, 4, 5, 6, 7],
+    ),
+];
+
+/// A screen of s = 4 that ends inside its last tiles, and cases on it.
+pub struct Cut {
+    pub screen: Screen,
+    pub cases: &'static [Marked],
+}
+
+const fn cut(width: u32, height: u32, cases: &'static [Marked]) -> Cut {
+    Cut { screen: Screen { width, height, s: 4 }, cases }
+}
+
+/// The case of request P2; the same along the other axis; and both sides of the last tile cut. The glass ends at 960 and 448.
+pub const CUT: [Cut; 3] = [
+    cut(
+        60,
+        32,
+        &[
+            marked("(1000,10)", &[[1000, 10]], &[], &[]),
+            marked("(960,10)", &[[960, 10]], &[3], &[3]),
+            marked("(961,10)", &[[961, 10]], &[], &[]),
+            marked("(960,256)", &[[960, 256]], &[3, 7], &[3, 7]),
+            marked("(960,512)", &[[960, 512]], &[7], &[7]),
+            marked("a line that leaves the glass", &[[900, 10], [1000, 10]], &[3], &[3]),
+            marked("a line past the glass", &[[961, 10], [1000, 500]], &[], &[]),
+        ],
+    ),
+    cut(
+        64,
+        28,
+        &[
+            marked("(10,500)", &[[10, 500]], &[], &[]),
+            marked("(10,448)", &[[10, 448]], &[4], &[4]),
+            marked("(10,449)", &[[10, 449]], &[], &[]),
+            marked("(256,448)", &[[256, 448]], &[4, 5], &[4, 5]),
+            marked("(1024,448)", &[[1024, 448]], &[7], &[7]),
+            marked("a line that leaves the glass", &[[10, 300], [10, 500]], &[4], &[4]),
+            marked("a line past the glass", &[[10, 449], [1000, 500]], &[], &[]),
+        ],
+    ),
+    cut(
+        60,
+        28,
+        &[
+            marked("(960,448)", &[[960, 448]], &[7], &[7]),
+            marked("(961,448)", &[[961, 448]], &[], &[]),
+            marked("(960,449)", &[[960, 449]], &[], &[]),
+            marked("(1000,500)", &[[1000, 500]], &[], &[]),
+            marked("a line through the corner", &[[952, 456], [968, 440]], &[7], &[7]),
+            marked("a line a unit past the corner", &[[953, 456], [969, 440]], &[], &[7]),
+            marked("a triangle beside the corner", &[[1000, 408], [920, 489], [1000, 500]], &[], &[7]),
+            marked(
+                "a triangle over all",
+                &[[0, 0], [2000, 0], [0, 2000]],
+                &[0, 1, 2, 3, 4, 5, 6, 7],
+                &[0, 1, 2, 3, 4, 5, 6, 7],
+            ),
+        ],
     ),
 ];

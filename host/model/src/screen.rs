@@ -46,15 +46,15 @@ impl Screen {
         16 << self.s
     }
 
-    /// The rectangle of a tile.
+    /// The rectangle of a tile: its right side is the smaller of (c+1)·T and 16·width, its bottom likewise with the height.
     pub fn rectangle(self, tile: u32) -> Rectangle {
         let column = i64::from(tile % self.columns());
         let row = i64::from(tile / self.columns());
         Rectangle {
             left: column * self.side(),
-            right: (column + 1) * self.side(),
+            right: ((column + 1) * self.side()).min(16 * i64::from(self.width)),
             top: row * self.side(),
-            bottom: (row + 1) * self.side(),
+            bottom: ((row + 1) * self.side()).min(16 * i64::from(self.height)),
         }
     }
 }

@@ -1,25 +1,28 @@
-//! The model gives what document 01 lists.
+//! The model gives what document 01 and request P2 list.
 
-use model::marked::{MARKED, SCREEN};
+use model::marked::{Cut, Marked, CUT, MARKED, SCREEN};
 use model::number;
 use model::pool::{State, POISON};
 use model::screen::Screen;
 use model::touch::{box_meets, touched};
 use model::unit::{unit, TABLE};
 
-#[test]
-fn marked_cases() {
-    for case in MARKED {
-        let boxed: Vec<u32> =
-            (0..SCREEN.tiles()).filter(|&tile| box_meets(case.shape, SCREEN.rectangle(tile))).collect();
-        assert_eq!(touched(SCREEN, case.shape), case.tiles, "{}", case.name);
-        assert_eq!(boxed, case.boxed, "the box of {}", case.name);
-    }
+fn check(screen: Screen, case: &Marked) {
+    let boxed: Vec<u32> = (0..screen.tiles()).filter(|&tile| box_meets(case.shape, screen.rectangle(tile))).collect();
+    assert_eq!(touched(screen, case.shape), case.tiles, "{} on {screen:?}", case.name);
+    assert_eq!(boxed, case.boxed, "the box of {} on {screen:?}", case.name);
 }
 
 #[test]
-fn a_tile_past_the_glass_is_full_size() {
-    assert_eq!(touched(Screen { width: 60, height: 32, s: 4 }, &[[1000, 10]]), [3]);
+fn marked_cases() {
+    MARKED.iter().for_each(|case| check(SCREEN, case));
+}
+
+#[test]
+fn a_tile_ends_where_the_screen_ends() {
+    for Cut { screen, cases } in CUT {
+        cases.iter().for_each(|case| check(screen, case));
+    }
 }
 
 #[test]

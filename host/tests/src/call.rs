@@ -79,6 +79,15 @@ impl Call {
         [entries / 2, entries.saturating_sub(1), entries].map(|place| Call::Read { tile: longest, place })
     }
 
+    /// The shape that the call bins, in units, where it has them.
+    pub fn shape(&self) -> Option<Vec<Vertex>> {
+        match self {
+            Call::Bin { shape, .. } => Some(shape.clone()),
+            Call::BinPixels { shape, .. } => model::unit::units(shape).ok(),
+            _ => None,
+        }
+    }
+
     /// The call with a smaller shape or a lower number.
     pub fn smaller(&self) -> Vec<Call> {
         match self {

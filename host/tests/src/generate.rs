@@ -5,10 +5,11 @@ use model::screen::{Rectangle, Screen};
 use model::{Pixel, Vertex, UNITS};
 
 use crate::random::Random;
+use crate::square::square;
 
-/// The screen with these columns, rows and s, whose last tiles reach past the glass by so many pixels.
-pub fn screen_with([columns, rows, s]: [u32; 3], past: [u32; 2]) -> Screen {
-    Screen { width: (columns << s) - past[0], height: (rows << s) - past[1], s }
+/// The screen with these columns, rows and s that has so many pixels less than whole tiles along each axis.
+pub fn screen_with([columns, rows, s]: [u32; 3], less: [u32; 2]) -> Screen {
+    Screen { width: (columns << s) - less[0], height: (rows << s) - less[1], s }
 }
 
 /// The columns, rows and s of every screen of 4,096 tiles.
@@ -16,15 +17,38 @@ pub fn full_screens() -> Vec<[u32; 3]> {
     (3..=6).flat_map(|s| (s..=12 - s).map(move |power| [1 << power, 4096 >> power, s])).collect()
 }
 
-/// A screen with these columns, rows and s; its last tiles often reach past the glass.
-fn ragged(random: &Random, sizes: [u32; 3]) -> Screen {
-    let side = 1 << sizes[2];
-    let past = || random.pick(&[0, 0, 1, 7, random.below(side)]).min(side - 1);
-    screen_with(sizes, [past(), past()])
+/// Screens of every s that end inside their last tiles along both axes: a single pixel, 4,095 by 9 either way, and one
+/// pixel more or less than whole tiles.
+pub fn cut_screens() -> Vec<Screen> {
+    let of = |s: u32| {
+        let (more, less) = ((1 << s) + 1, (2 << s) - 1);
+        let sizes = [[1, 1], [4095, 9], [9, 4095], [more, more], [more, less], [less, more], [less, less]];
+        sizes.map(|[width, height]| Screen { width, height, s })
+    };
+    (3..=6).flat_map(of).collect()
 }
 
-/// A screen within the rules, of at most so many columns and rows.
+/// How often the rarest of the `cut_screens` stands among these screens.
+pub fn rarest_cut(screens: &[Screen]) -> usize {
+    let times = |cut: Screen| screens.iter().filter(|screen| **screen == cut).count();
+    cut_screens().into_iter().map(times).min().unwrap()
+}
+
+/// A screen with these columns, rows and s, which often ends inside its last tiles: with their first pixel, before their
+/// last one, or anywhere.
+fn ragged(random: &Random, sizes: [u32; 3]) -> Screen {
+    let side = 1 << sizes[2];
+    let less = || random.pick(&[0, 1, side - 1, random.below(side)]);
+    screen_with(sizes, [less(), less()])
+}
+
+/// A screen within the rules, of at most so many columns and rows; one in four is among the `cut_screens`.
 pub fn screen(random: &Random, most: u32) -> Screen {
+    if random.once_in(4) {
+        let mut cut = cut_screens();
+        cut.retain(|screen| screen.columns().max(screen.rows()) <= most);
+        return random.pick(&cut);
+    }
     let s = random.from_to(3, 6) as u32;
     let most = most.min(4096 >> s);
     let one = 1 + random.below(most);
@@ -59,19 +83,32 @@ pub fn bad_screen(random: &Random) -> Screen {
     Screen { width, height, s }
 }
 
-/// A tile of the screen; the first and the last more often.
+/// A tile of the screen; those of the first and of the last column and row more often.
 pub fn tile(random: &Random, screen: Screen) -> u32 {
-    let any = random.below(screen.tiles());
-    random.pick(&[any, any, any, 0, screen.tiles() - 1])
+    let along = |tiles: u32| {
+        let any = random.below(tiles);
+        random.pick(&[any, any, 0, tiles - 1, tiles - 1])
+    };
+    along(screen.rows()) * screen.columns() + along(screen.columns())
 }
 
-/// A coordinate on one of two sides of a tile, beside it, or between.
-fn near(random: &Random, low: i64, high: i64) -> i32 {
-    let (low, high) = (low as i32, high as i32);
+/// A coordinate on one of two sides of a tile, beside it, between, or up to two full tiles away.
+fn near(random: &Random, low: i64, high: i64, full: i64) -> i32 {
+    let (low, high, full) = (low as i32, high as i32, full as i32);
     let side = random.pick(&[low, high]);
     let between = random.from_to(low, high);
     let step = random.pick(&[-1, 1]);
-    random.pick(&[side, side, side + step, between, between, side + step * random.from_to(0, 2 * (high - low))])
+    random.pick(&[side, side, side + step, between, between, side + step * random.from_to(0, 2 * full)])
+}
+
+/// A vertex in the full square of a tile, in what the screen cuts off of it or beside that.
+fn cut_off(random: &Random, rectangle: Rectangle, square: Rectangle) -> Vertex {
+    let from_to = |low: i64, high: i64| random.from_to(low as i32, high as i32);
+    let past = |end: i64, full: i64| random.pick(&[end as i32, end as i32 + 1, from_to(end, full)]);
+    let within = |low: i64, end: i64, full: i64| random.pick(&[from_to(low, end), from_to(low, full)]);
+    let past_right = [past(rectangle.right, square.right), within(square.top, rectangle.bottom, square.bottom)];
+    let past_bottom = [within(square.left, rectangle.right, square.right), past(rectangle.bottom, square.bottom)];
+    random.pick(&[past_right, past_bottom])
 }
 
 /// A coordinate anywhere in range; its ends more often.
@@ -126,14 +163,16 @@ fn against(random: &Random, rectangle: Rectangle, vertices: usize) -> Vec<Vertex
 
 /// A shape in range that lies at a tile so that its answer often turns on one unit.
 pub fn shape(random: &Random, screen: Screen, tile: u32) -> Vec<Vertex> {
-    let rectangle = screen.rectangle(tile);
-    let beside = || [near(random, rectangle.left, rectangle.right), near(random, rectangle.top, rectangle.bottom)];
+    let (rectangle, square) = (screen.rectangle(tile), square(screen, tile));
+    let along = |low, high| near(random, low, high, screen.side());
+    let beside = || [along(rectangle.left, rectangle.right), along(rectangle.top, rectangle.bottom)];
     let anywhere = || [far(random), far(random)];
     let vertices = random.pick(&[1, 2, 2, 3, 3, 3]);
     let mut shape = match random.below(16) {
         0 => (0..vertices).map(|_| anywhere()).collect(),
         1 => (0..vertices).map(|_| random.pick(&[beside(), beside(), anywhere()])).collect(),
         2 | 3 => (0..vertices).map(|_| beside()).collect(),
+        4 | 5 if rectangle != square => (0..vertices).map(|_| cut_off(random, rectangle, square)).collect(),
         _ => against(random, rectangle, vertices),
     };
     // one unit off

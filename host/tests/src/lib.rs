@@ -5,3 +5,4 @@ pub mod generate;
 pub mod hold;
 pub mod random;
 pub mod smaller;
+pub mod square;

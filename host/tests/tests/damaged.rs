@@ -8,6 +8,7 @@ use tests::generate;
 use tests::hold::{hold, Case};
 use tests::random::Random;
 use tests::smaller::{self, fewer};
+use tests::square::cut_both_ways;
 
 /// A sound pool with words changed and, perhaps, words cut off or added; and a call on it.
 #[derive(Clone, Debug)]
@@ -148,15 +149,18 @@ impl Case for Damaged {
 #[test]
 fn the_audit_says_yes_exactly_for_sound_pools() {
     let mut verdicts: BTreeMap<String, u64> = BTreeMap::new();
-    let (mut chain, mut largest) = (0, 0);
+    let (mut chain, mut largest, mut cut) = (0, 0, 0);
     hold(0xF100_0003, 200_000, |case: &Damaged, verdict| {
         *verdicts.entry(verdict).or_default() += 1;
         chain = chain.max(case.state.longest_chain());
         largest += u32::from(case.state.tiles.len() == 4096 && case.state.blocks == 2048);
+        cut += u32::from(cut_both_ways(case.state.screen));
     });
     println!("sound still, or the first fault found: {verdicts:?}");
     println!("the longest chain has {chain} blocks; {largest} pools have 4,096 tiles and 2,048 blocks");
+    println!("{cut} pools are for screens cut on both axes");
     assert_eq!(verdicts.len(), 10, "each sentence should be broken, and some pools be sound still");
     assert!(verdicts.values().all(|&pools| pools > 500), "each often");
     assert!(chain > 40 && largest > 20, "long chains and largest pools should be there");
+    assert!(cut > 50_000, "screens that are cut on both axes should be common");
 }

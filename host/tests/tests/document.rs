@@ -1,7 +1,8 @@
-//! What document 01 lists, by the wrapper.
+//! What document 01 and request P2 list, by the wrapper.
 
-use flourscoop::{box_touches, corner_touches, room, unit, Binned, Pixel, Pool, Refusal, Screen, Shape, Vertex};
-use model::marked::{MARKED, SCREEN};
+use flourscoop::{box_touches, corner_touches, room, unit, Binned, Pixel, Pool, Refusal, Shape, Vertex};
+use model::marked::{Cut, Marked, CUT, MARKED, SCREEN};
+use model::screen::Screen;
 use model::unit::TABLE;
 use tests::call::{screen_of, shape_of};
 
@@ -9,27 +10,32 @@ const fn point(x: i32, y: i32) -> Shape<Vertex> {
     Shape::Point(Vertex { x, y })
 }
 
-#[test]
-fn marked_cases() {
-    let screen = screen_of(SCREEN);
-    for case in MARKED {
-        let shape = shape_of(case.shape);
-        let mut words = vec![0; room(screen, 8).unwrap()];
-        let mut pool = Pool::open(&mut words, screen, 8).unwrap();
-        let tiles = case.tiles.len() as u32;
-        assert_eq!(pool.bin(77, shape), Ok(Binned { tiles, blocks: tiles }), "{}", case.name);
-        for tile in 0..8 {
-            let listed = case.tiles.contains(&tile);
-            assert_eq!(pool.read(tile, 0), if listed { Ok(77) } else { Err(Refusal::NoPlace) }, "{}", case.name);
-            assert_eq!(corner_touches(screen, tile, shape), Ok(listed), "{}", case.name);
-            assert_eq!(box_touches(screen, tile, shape), Ok(case.boxed.contains(&tile)), "{}", case.name);
-        }
+/// Bins a case on a screen of eight tiles, reads each list, and asks both questions of each tile.
+fn check(screen: Screen, case: &Marked) {
+    let name = format!("{} on {screen:?}", case.name);
+    let (screen, shape) = (screen_of(screen), shape_of(case.shape));
+    let mut words = vec![0; room(screen, 8).unwrap()];
+    let mut pool = Pool::open(&mut words, screen, 8).unwrap();
+    let tiles = case.tiles.len() as u32;
+    assert_eq!(pool.bin(77, shape), Ok(Binned { tiles, blocks: tiles }), "{name}");
+    for tile in 0..8 {
+        let listed = case.tiles.contains(&tile);
+        assert_eq!(pool.read(tile, 0), if listed { Ok(77) } else { Err(Refusal::NoPlace) }, "{name}");
+        assert_eq!(corner_touches(screen, tile, shape), Ok(listed), "{name}");
+        assert_eq!(box_touches(screen, tile, shape), Ok(case.boxed.contains(&tile)), "{name}");
     }
 }
 
 #[test]
-fn a_tile_past_the_glass_is_full_size() {
-    assert_eq!(corner_touches(Screen { width: 60, height: 32, s: 4 }, 3, point(1000, 10)), Ok(true));
+fn marked_cases() {
+    MARKED.iter().for_each(|case| check(SCREEN, case));
+}
+
+#[test]
+fn a_tile_ends_where_the_screen_ends() {
+    for Cut { screen, cases } in CUT {
+        cases.iter().for_each(|case| check(screen, case));
+    }
 }
 
 #[test]

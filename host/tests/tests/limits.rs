@@ -1,5 +1,5 @@
-//! Every limit from both sides, on the archive and on the model: 4,096 tiles, 2,048 blocks, chains up to the longest, and
-//! slices as long as the room and a word less.
+//! Every limit from both sides, on the archive and on the model: 4,096 tiles, the end of the screen, 2,048 blocks, chains
+//! up to the longest, and slices as long as the room and a word less.
 
 use flourscoop::{raw, Refusal};
 use model::number;
@@ -7,7 +7,7 @@ use model::pool::{room, State, Tile, IDS_OF_BLOCK, MOST_BLOCKS};
 use model::screen::Screen;
 use model::Vertex;
 use tests::call::{ask, screen_of, Blocks, Call, Outcome, Slot};
-use tests::generate::{full_screens, screen_with};
+use tests::generate::{cut_screens, full_screens, screen_with};
 
 const IDS: u32 = IDS_OF_BLOCK as u32;
 const ONE_TILE: Screen = Screen { width: 8, height: 8, s: 3 };
@@ -53,19 +53,28 @@ fn first_rows(screen: Screen, rows: u32) -> Vec<Vertex> {
     vec![[-262_144, low], [262_143, low], [0, -262_144]]
 }
 
-/// The columns, rows and s of every screen of 4,096 tiles, and the screen: with all of its last tiles on the glass, and
-/// with one pixel of them.
+/// The columns, rows and s of every screen of 4,096 tiles, and the screen: with whole tiles, and with last tiles of one
+/// pixel across.
 fn each_full_screen() -> impl Iterator<Item = ([u32; 3], Screen)> {
     full_screens().into_iter().flat_map(|sizes| {
-        let past = (1 << sizes[2]) - 1;
-        [[0, 0], [past, past]].map(|past| (sizes, screen_with(sizes, past)))
+        let less = (1 << sizes[2]) - 1;
+        [[0, 0], [less, less]].map(|less| (sizes, screen_with(sizes, less)))
     })
 }
 
-/// The screens with one column more and with one row more, of which one pixel is on the glass.
+/// The screens with one column more and with one row more, of one pixel across.
 fn one_more([columns, rows, s]: [u32; 3]) -> [Screen; 2] {
-    let past = (1 << s) - 1;
-    [screen_with([columns + 1, rows, s], [past, 0]), screen_with([columns, rows + 1, s], [0, past])]
+    let less = (1 << s) - 1;
+    [screen_with([columns + 1, rows, s], [less, 0]), screen_with([columns, rows + 1, s], [0, less])]
+}
+
+/// The cut screens, 800 by 480, and 3 by 2 tiles with a pixel more or less, or none, along each axis.
+fn each_end() -> impl Iterator<Item = Screen> {
+    let around = (3..=6).flat_map(|s| {
+        let extents = move |tiles: u32| [(tiles << s) - 1, tiles << s, (tiles << s) + 1];
+        extents(3).into_iter().flat_map(move |width| extents(2).map(|height| Screen { width, height, s }))
+    });
+    cut_screens().into_iter().chain([screen_with([50, 30, 4], [0, 0])]).chain(around)
 }
 
 #[test]
@@ -101,6 +110,63 @@ fn a_question_is_about_one_of_4096_tiles() {
             assert_eq!(touched(screen, 4096), Ok(Err(number::NO_TILE)), "{shape:?} on {screen:?}");
             for larger in one_more(sizes) {
                 assert_eq!(touched(larger, 0), Ok(Err(number::SCREEN)), "{shape:?} on {larger:?}");
+            }
+        }
+    }
+}
+
+/// Where the screen ends, in units.
+fn end_of(screen: Screen) -> [i32; 2] {
+    [screen.width, screen.height].map(|extent| 16 * extent as i32)
+}
+
+/// Asks box and corner whether a point touches each of these tiles, and bins it; it should touch them all and no other, or
+/// none.
+fn expect_point(slot: &mut Slot, screen: Screen, point: Vertex, tiles: &[u32], touched: bool) {
+    let listed = if touched { tiles.len() as u32 } else { 0 };
+    expect(slot, Call::Bin { id: 5, shape: vec![point] }, [0, listed, listed]);
+    for &tile in tiles {
+        let asked = ask(screen, tile, &[point]).unwrap();
+        assert_eq!((asked.boxed, asked.touched), (Ok(touched), Ok(touched)), "{point:?} at tile {tile} of {screen:?}");
+        expect(slot, Call::Read { tile, place: 0 }, if touched { [0, 5, 0] } else { alone(number::NO_PLACE) });
+        expect(slot, Call::Release { tile }, [0, u32::from(touched), 0]);
+    }
+}
+
+#[test]
+fn the_last_tile_ends_where_the_screen_ends() {
+    let full = each_full_screen().map(|(_, screen)| screen).chain([screen_with([64, 64, 6], [1, 1])]);
+    for screen in each_end().chain(full) {
+        let [right, bottom] = end_of(screen);
+        let mut slot = opened(screen, 1);
+        for x in right - 1..=right + 1 {
+            for y in bottom - 1..=bottom + 1 {
+                let on_glass = x <= right && y <= bottom;
+                expect_point(&mut slot, screen, [x, y], &[screen.tiles() - 1], on_glass);
+            }
+        }
+    }
+}
+
+#[test]
+fn the_last_column_and_row_end_where_the_screen_ends() {
+    for screen in each_end() {
+        let [columns, rows] = [screen.columns(), screen.rows()];
+        let [right, bottom] = end_of(screen);
+        let side = 16 << screen.s;
+        let mut slot = opened(screen, 2);
+        // where two of their tiles meet, and a unit past it; the last such places and, of many, one in eight
+        let meetings = |tiles: u32| (1..tiles).rev().step_by(if tiles > 64 { 8 } else { 1 });
+        for past in 0..=1 {
+            for column in meetings(columns) {
+                let tile = (rows - 1) * columns + column;
+                let point = [column as i32 * side, bottom + past];
+                expect_point(&mut slot, screen, point, &[tile - 1, tile], past == 0);
+            }
+            for row in meetings(rows) {
+                let tile = row * columns + columns - 1;
+                let point = [right + past, row as i32 * side];
+                expect_point(&mut slot, screen, point, &[tile - columns, tile], past == 0);
             }
         }
     }
@@ -144,9 +210,7 @@ fn a_slice_is_as_long_as_the_room_or_longer() {
 
 #[test]
 fn a_shape_takes_2048_blocks_and_no_more() {
-    for sizes in FULL {
-        let [columns, rows, _] = sizes;
-        let screen = screen_with(sizes, [0, 0]);
+    for ([columns, rows, _], screen) in each_full_screen().filter(|(sizes, _)| FULL.contains(sizes)) {
         let half = |id| Call::Bin { id, shape: first_rows(screen, rows / 2) };
         expect(&mut opened(screen, MOST_BLOCKS - 1), half(1), alone(number::NO_ROOM));
 

@@ -3,11 +3,12 @@
 use model::number;
 use model::pool::{block_at, room, State, IDS_OF_BLOCK, POISON};
 use model::screen::Screen;
-use tests::call::{Blocks, Call, Slot};
-use tests::generate;
+use tests::call::{Blocks, Call, Outcome, Slot};
+use tests::generate::{self, cut_screens, rarest_cut};
 use tests::hold::{hold, Case};
 use tests::random::Random;
 use tests::smaller::{self, fewer};
+use tests::square::{cut_both_ways, squares_touched};
 
 /// Calls on two pools for one screen, the second with at least as many blocks as the first.
 #[derive(Clone, Debug)]
@@ -48,6 +49,13 @@ impl Sizes {
         Sizes { screen: generate::screen(random, 4), blocks, times: &[1, 1, 1, 1, 1, 1, 1, 2, 3, 31, 34] }
     }
 
+    /// A screen that ends inside its last tiles along both axes.
+    fn cut(random: &Random) -> Sizes {
+        let first = random.below(random.pick(&[24, 600]));
+        let blocks = [first, first + random.below(600)];
+        Sizes { screen: random.pick(&cut_screens()), blocks, times: &[1, 1, 1, 2] }
+    }
+
     /// As large as a pool can be, or nearly.
     fn large(random: &Random) -> Sizes {
         let screen = random.pick(&[generate::full_screen(random), generate::screen(random, 512)]);
@@ -66,8 +74,8 @@ impl Sizes {
 
 /// What the calls of a sequence reached.
 struct Seen {
-    /// the numbers that the calls on the first pool returned
-    numbers: Vec<u32>,
+    /// the answers of the first pool
+    answers: Vec<Outcome>,
     /// the most blocks that a chain had, in either pool
     chain: usize,
 }
@@ -79,6 +87,7 @@ impl Case for Sequence {
         let sizes = match place % 1000 {
             0 => Sizes::large(random),
             500 => Sizes::long(random),
+            place if place % 50 == 25 => Sizes::cut(random),
             _ => Sizes::usual(random),
         };
         let Sizes { screen, blocks, times } = sizes;
@@ -107,11 +116,11 @@ impl Case for Sequence {
     /// list of each.
     fn run(&self) -> Result<Seen, String> {
         let (mut first, mut second) = (self.slot(0), self.slot(1));
-        let mut seen = Seen { numbers: Vec::new(), chain: 0 };
+        let mut seen = Seen { answers: Vec::new(), chain: 0 };
         let calls = self.calls.iter().flat_map(|Repeated(times, call)| std::iter::repeat_n(call, *times as usize));
         for call in calls {
             let answer = first.call(call).map_err(|wrong| format!("first pool: {wrong}"))?;
-            seen.numbers.push(answer[0]);
+            seen.answers.push(answer);
             if ![number::SHORT, number::NO_ROOM].contains(&answer[0]) {
                 let shared = second.call(call).map_err(|wrong| format!("second pool: {wrong}"))?;
                 if shared != answer {
@@ -146,6 +155,17 @@ impl Sequence {
         other
     }
 
+    /// How many shapes were listed, going by these answers, in fewer tiles than full squares would have it.
+    fn in_fewer_tiles(&self, answers: &[Outcome]) -> usize {
+        let mut answers = answers.iter();
+        let last_answers = self.calls.iter().map(|Repeated(times, call)| (call, answers.nth(*times as usize - 1)));
+        let fewer = |(call, answer): &(&Call, Option<&Outcome>)| match (call.shape(), answer) {
+            (Some(shape), Some([number::DONE, tiles, _])) => *tiles < squares_touched(self.screen, &shape),
+            _ => false,
+        };
+        last_answers.filter(fewer).count()
+    }
+
     /// A pool's slot before it is opened: words that say nothing.
     fn slot(&self, pool: usize) -> Slot {
         let words = room(self.screen, self.blocks[pool]) + self.tails[pool];
@@ -178,13 +198,24 @@ impl Sequence {
 #[test]
 fn two_pools_answer_and_hold_as_the_model() {
     let (mut numbers, mut chain, mut largest) = ([0u64; 11], 0, 0);
+    let (mut cut, mut in_fewer_tiles, mut screens) = (0, 0, Vec::new());
     hold(0xF100_0002, 20_000, |case: &Sequence, seen: Seen| {
-        seen.numbers.iter().for_each(|&number| numbers[number as usize] += 1);
+        seen.answers.iter().for_each(|answer| numbers[answer[0] as usize] += 1);
         chain = chain.max(seen.chain);
         largest += u32::from(case.screen.tiles() == 4096 && case.blocks[1] == 2048);
+        screens.push(case.screen);
+        if cut_both_ways(case.screen) {
+            cut += 1;
+            in_fewer_tiles += case.in_fewer_tiles(&seen.answers);
+        }
     });
+    let rarest = rarest_cut(&screens);
     println!("calls on the first pool, by the number that they return: {numbers:?}");
     println!("the longest chain has {chain} blocks; {largest} pools have 4,096 tiles and 2,048 blocks");
+    println!("{cut} sequences are on screens cut on both axes; each of the cut screens comes {rarest} times or more");
+    println!("{in_fewer_tiles} shapes on these were listed in fewer tiles than full squares would have it");
     assert!(numbers.iter().all(|&calls| calls > 500), "each number should be returned often");
     assert!(chain > 40 && largest > 3, "long chains and largest pools should be there");
+    assert!(cut > 5000 && rarest > 3, "screens that are cut on both axes should be common");
+    assert!(in_fewer_tiles > 5000, "it should often matter that tiles are cut");
 }

@@ -1,13 +1,14 @@
 //! Box and corner against the model, on shapes most of which lie where the answer turns.
 
 use model::screen::{Rectangle, Screen};
-use model::touch::touches;
+use model::touch::{box_meets, touches};
 use model::Vertex;
 use tests::call::{ask, Asked};
-use tests::generate;
+use tests::generate::{self, rarest_cut};
 use tests::hold::{hold, Case};
 use tests::random::Random;
 use tests::smaller;
+use tests::square::{cut_both_ways, square};
 
 #[derive(Clone, Debug)]
 struct Question {
@@ -39,7 +40,7 @@ impl Case for Question {
         }
         let tiles = [0, self.tile / 2, self.tile.saturating_sub(1)].into_iter().filter(|&tile| tile < self.tile);
         let mut all: Vec<_> = tiles.map(|tile| Question { tile, ..self.clone() }).collect();
-        all.extend((self.tile > 0).then(|| self.at_first_tile()));
+        all.extend((1..self.screen.tiles()).contains(&self.tile).then(|| self.at_first_tile()));
         all.extend(smaller::screens(self.screen).into_iter().map(|screen| Question { screen, ..self.clone() }));
         all.extend(smaller::shapes(&self.shape).into_iter().map(|shape| Question { shape, ..self.clone() }));
         all
@@ -51,11 +52,13 @@ impl Case for Question {
 }
 
 impl Question {
-    /// The shape as it lies at its tile, at tile 0.
+    /// The shape as it lies at its tile, at tile 0 of the screen that begins there.
     fn at_first_tile(&self) -> Question {
         let Rectangle { left, top, .. } = self.screen.rectangle(self.tile);
+        let Screen { width, height, s } = self.screen;
+        let screen = Screen { width: width - left as u32 / 16, height: height - top as u32 / 16, s };
         let moved = |&[x, y]: &Vertex| [x.wrapping_sub(left as i32), y.wrapping_sub(top as i32)];
-        Question { tile: 0, shape: self.shape.iter().map(moved).collect(), ..self.clone() }
+        Question { screen, tile: 0, shape: self.shape.iter().map(moved).collect() }
     }
 
     /// Whether a step of one unit by one of the vertices changes the answer.
@@ -74,7 +77,8 @@ impl Question {
 #[test]
 fn box_and_corner_answer_as_the_model() {
     let (mut asked, mut refused, mut boxed, mut touched, mut looked_at, mut turning) = (0, 0, 0, 0, 0, 0);
-    hold(0xF100_0001, 1_000_000, |case: &Question, seen| {
+    let (mut at_cut_tile, mut cut_boxed, mut cut_touched, mut screens) = (0, 0, 0, Vec::new());
+    hold(0xF100_0001, 1_200_000, |case: &Question, seen| {
         asked += 2;
         refused += 2 * i32::from(seen.touched.is_err());
         boxed += i32::from(seen.boxed == Ok(true));
@@ -83,9 +87,24 @@ fn box_and_corner_answer_as_the_model() {
             looked_at += 1;
             turning += i32::from(case.turns_on_a_unit());
         }
+        screens.push(case.screen);
+        let (Ok(boxed), Ok(touched)) = (seen.boxed, seen.touched) else {
+            return;
+        };
+        at_cut_tile += i32::from(cut_both_ways(case.screen) && case.tile == case.screen.tiles() - 1);
+        let square = square(case.screen, case.tile);
+        if square != case.screen.rectangle(case.tile) {
+            cut_boxed += i32::from(boxed != box_meets(&case.shape, square));
+            cut_touched += i32::from(touched != touches(&case.shape, square));
+        }
     });
+    let rarest = rarest_cut(&screens);
     println!("{asked} questions, {refused} refused; box says yes {boxed} times, corner {touched} times");
     println!("of {looked_at} shapes looked at, {turning} change their answer with one unit of one vertex");
+    println!("{at_cut_tile} shapes lie at a tile that is cut on both axes; each of the cut screens comes {rarest} times or more");
+    println!("a full square would change the answer of box {cut_boxed} times, and that of corner {cut_touched} times");
     assert!(turning * 2 > looked_at, "most shapes should lie where the answer turns");
     assert!(boxed - touched > 50_000, "the box should often say yes wrongly");
+    assert!(at_cut_tile > 100_000 && rarest > 1000, "tiles that are cut on both axes should be common");
+    assert!(cut_boxed > 20_000 && cut_touched > 40_000, "it should often matter that a tile is cut");
 }

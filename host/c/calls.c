@@ -7,7 +7,7 @@
 #include "flourscoop.h"
 
 enum { WIDTH = 64, HEIGHT = 32, S = 4, BLOCKS = 2, WORDS = FLOURSCOOP_ROOM(WIDTH, HEIGHT, S, BLOCKS) };
-enum { CUT_WORDS = FLOURSCOOP_ROOM(60, 28, S, 1) };
+enum { CUT_WORDS = FLOURSCOOP_ROOM(4095, 9, 3, 1) };
 
 static uint32_t pool[WORDS], kept[WORDS], cut[CUT_WORDS];
 static uint32_t value, other;
@@ -156,20 +156,28 @@ static void point_at(uint32_t width, uint32_t height, uint32_t s, uint32_t tile,
     expect(name, flourscoop_read(cut, CUT_WORDS, tile, 1, &value), read, 6 * touches, 0);
 }
 
-/* Tiles end where the screen ends: 60 by 28 pixels at 960 and 448, one pixel at 16, whatever s is. */
+/* The last tile ends where the screen ends: points there, and a unit past it along each axis. */
+static void end_at(uint32_t width, uint32_t height, uint32_t s, uint32_t last_tile)
+{
+    const int32_t right = 16 * (int32_t)width, bottom = 16 * (int32_t)height;
+    point_at(width, height, s, last_tile, right, bottom, 1);
+    point_at(width, height, s, last_tile, right + 1, bottom, 0);
+    point_at(width, height, s, last_tile, right, bottom + 1, 0);
+}
+
+/* Screens that end inside their last tiles. */
 static void ends(void)
 {
     point_at(60, 32, S, 3, 960, 10, 1);
     point_at(60, 32, S, 3, 1000, 10, 0);
-    point_at(60, 28, S, 7, 960, 448, 1);
-    point_at(60, 28, S, 7, 961, 448, 0);
-    point_at(60, 28, S, 7, 960, 449, 0);
     point_at(60, 28, S, 7, 1000, 500, 0);
-    for (uint32_t s = 3; s <= 6; s++) {
-        point_at(1, 1, s, 0, 16, 16, 1);
-        point_at(1, 1, s, 0, 17, 16, 0);
-        point_at(1, 1, s, 0, 16, 17, 0);
-    }
+    end_at(60, 28, S, 7);
+    for (uint32_t s = 3; s <= 6; s++)
+        end_at(1, 1, s, 0);
+    end_at(4095, 9, 3, 1023);
+    /* a pixel less than whole tiles, and a pixel more */
+    end_at(63, 31, S, 7);
+    end_at(65, 33, S, 14);
 
     /* 960.5 units go to 960, which is even, and 961 lie past the end */
     expect("open", flourscoop_open(cut, CUT_WORDS, 60, 28, S, 1), FLOURSCOOP_DONE, 0, 0);

@@ -12,31 +12,27 @@ use Rattle.screen.specs.Rectangle.{near, far, Meets}
 use Rattle.screen.proofs.Sizes.{across≥}
 use Rattle.screen.proofs.Laws.{near-rises, near-first, far-near, far-last, far≤glass}
 
--- z lies from n times where tile k begins to n times where it ends
-pub record Lies (extent s n : ℕ) (z : ℤ) (k : ℕ) : Type 0 where
-  pub from : (pos n *ℤ near extent s k) ≤ℤ z
-  pub to : z ≤ℤ (pos n *ℤ far extent s k)
-
--- one of the tiles from first to last
+-- z lies in one of the tiles from first to last: from n times where it begins to n times where it ends
 pub record LiesIn (extent s n : ℕ) (z : ℤ) (first last : ℕ) : Type 0 where
   pub tile : ℕ
   pub first≤ : first ≤ tile
   pub ≤last : tile ≤ last
-  pub lies : Lies extent s n z tile
+  pub from : (pos n *ℤ near extent s tile) ≤ℤ z
+  pub to : z ≤ℤ (pos n *ℤ far extent s tile)
 
 module _ (extent s n : ℕ) (z : ℤ) where
   along : (m first last : ℕ) → first + m ≡ last → last < across extent s
       → (pos n *ℤ near extent s first) ≤ℤ z → z ≤ℤ (pos n *ℤ far extent s last) → LiesIn extent s n z first last
   along zero first last e h l r =
-      record { tile = last; first≤ = omega arith; ≤last = omega arith; lies = record { from = subst (λ (k : ℕ). (pos n *ℤ near extent s k) ≤ℤ z) (omega arith) l; to = r } }
+      record { tile = last; first≤ = omega arith; ≤last = omega arith; from = subst (λ (k : ℕ). (pos n *ℤ near extent s k) ≤ℤ z) (omega arith) l; to = r }
   along (suc m) first last e h l r =
       ⊎-elim
-      (λ (t : z ≤ℤ (pos n *ℤ far extent s first)). record { tile = first; first≤ = omega arith; ≤last = omega arith; lies = record { from = l; to = t } })
+      (λ (t : z ≤ℤ (pos n *ℤ far extent s first)). record { tile = first; first≤ = omega arith; ≤last = omega arith; from = l; to = t })
       (λ (t : (pos n *ℤ far extent s first) <ℤ z). further (along m (first + 1) last (omega arith) h (subst (λ (y : ℤ). (pos n *ℤ y) ≤ℤ z) (far-near extent s first (omega arith)) (<ℤ-≤ℤ t)) r))
       (≤ℤ-or-< z (pos n *ℤ far extent s first))
     where
       further : LiesIn extent s n z (first + 1) last → LiesIn extent s n z first last
-      further w = let f = w .first≤ in record { tile = w .tile; first≤ = omega arith; ≤last = w .≤last; lies = w .lies }
+      further w = let f = w .first≤ in record { tile = w .tile; first≤ = omega arith; ≤last = w .≤last; from = w .from; to = w .to }
 
   -- what lies from where the first begins to where the last ends lies in one of them
   pub between-tiles : {first last : ℕ} → first ≤ last → last < across extent s
@@ -55,8 +51,8 @@ in-a-tile extent s e z l h =
       f .tile,
       omega arith,
       record {
-        from = subst (λ (y : ℤ). y ≤ℤ z) (one-times (near extent s (f .tile))) (f .lies .from);
-        to = subst (λ (y : ℤ). z ≤ℤ y) (one-times (far extent s (f .tile))) (f .lies .to);
+        from = subst (λ (y : ℤ). y ≤ℤ z) (one-times (near extent s (f .tile))) (f .from);
+        to = subst (λ (y : ℤ). z ≤ℤ y) (one-times (far extent s (f .tile))) (f .to);
       },
     )
   where

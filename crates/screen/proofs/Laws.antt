@@ -1,7 +1,7 @@
 -- What may be known of tiles and their rectangles: numbers and places go back and forth, the sides are in order and rise, and along an axis each tile ends
 -- where the next begins, from 0 to where the screen ends.
-use mathlib.Core.Path.{_≡_, sym, ap, _∙_}
-use Prim.Native.Nat.{ℕ, zero, suc, _+_, _*_, _-_, _/_, _%_, _^_, _≤_, _<_, min}
+use mathlib.Core.Path.{_≡_, ap}
+use Prim.Native.Nat.{ℕ, suc, _+_, _*_, _-_, _^_, _≤_, _<_, min}
 use native.Mathlib.Nat.{mul-le-mul-left, mul-le-mul-right, div-add-mod, mod-lt, div-lt-iff-lt-mul}
 use native.Mathlib.Omega.{arith}
 use lib.IntN.{pos}
@@ -13,7 +13,7 @@ use Rattle.numbers.proofs.Ceil.{same-mul, ceil-enough}
 use Rattle.screen.specs.declared.Screen.{Screen}
 use Rattle.screen.specs.Screen.{Allowed, across, columns, rows, tiles, columnOf, rowOf, tileAt}
 use Rattle.screen.specs.Rectangle.{side, near, far, rectangleAt, glass, Inside, Proper}
-use Rattle.screen.proofs.Sizes.{across≤, across≥, past-below}
+use Rattle.screen.proofs.Sizes.{across≥, past-below}
 
 pos-le : {m n : ℕ} → m ≤ n → pos m ≤ℤ pos n
 pos-le {m} {n} h = diff-le (diff-pos m) (diff-pos n) (omega arith)

@@ -2,7 +2,7 @@
 ghost use mathlib.Core.Path.{_≡_};
 ghost use lib.IntN.{pos, negsuc};
 ghost use lib.Signed.{_≤ℤ_};
-ghost use Prim.Native.Nat.{ℕ, _+_, _*_, _/_, _%_, _^_, _<_, _≤_, min};
+ghost use Prim.Native.Nat.{ℕ, _+_, _*_, _/_, _%_, _<_, _≤_, min};
 ghost use Rattle.numbers.specs.Says.{Says};
 ghost use Rattle.screen.specs.Screen.{Allowed, across, columns, rows, tiles, columnOf, rowOf};
 ghost use Rattle.numbers.specs.Diff.{up};

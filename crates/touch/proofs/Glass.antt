@@ -76,10 +76,10 @@ module _ (d : Screen) (shape : Shape) {c c′ r r′ : ℕ} (c≤ : c ≤ c′) 
           mean = record {
             one-each = m .one-each;
             some = m .some;
-            left = x .lies .from;
-            right = x .lies .to;
-            top = y .lies .from;
-            bottom = y .lies .to;
+            left = x .from;
+            right = x .to;
+            top = y .from;
+            bottom = y .to;
           };
         };
       }

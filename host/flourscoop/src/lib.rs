@@ -27,8 +27,9 @@ pub use refusal::Refusal;
 
 /// A screen of `width` by `height` pixels with tiles of 2^`s` by 2^`s` pixels, numbered row by row from the top left.
 ///
-/// All four sides belong to a tile, and it ends where the screen ends: with T = 16·2^`s` units, its right side is the
-/// smaller of (c+1)·T and 16·`width`, its bottom likewise with the `height`. A shape past these ends is in no tile.
+/// A tile ends where the screen ends. With T = 16·2^`s` units, the one in column c and row r reaches from c·T to the
+/// smaller of (c+1)·T and 16·`width`, and from r·T to the smaller of (r+1)·T and 16·`height`, all four sides included. A
+/// shape past the ends of the screen is in no tile.
 ///
 /// ```
 /// use flourscoop::{corner_touches, Screen, Shape, Vertex};

@@ -1,5 +1,5 @@
 -- `screen::meeting` meets its contract. The two positive parts stand for the interval's ends, and the rest is naturals. An interval past the glass meets no tile.
-use mathlib.Core.Path.{_≡_, ap, _∙_}
+use mathlib.Core.Path.{ap, _∙_}
 use native.Mathlib.Omega.{arith}
 use lib.IntN.{ℤ, pos, negsuc, _+ℤ_}
 use lib.Signed.{_≤ℤ_}

@@ -1,7 +1,9 @@
 #!/usr/bin/env bash
 # The measures of docs/PERFORMANCE.md, of target/host/libflourscoop.a as host/build.sh made it: nanoseconds per call beside
 # a plain Rust binner, stack per call, code size, and what the archive needs from outside.
+# host/measure.sh ARCHIVE times the unit of that archive too, of another version, in the same run.
 set -eu
+before=${1:+$(realpath -e -- "$1")}
 cd "$(dirname "${BASH_SOURCE[0]}")"
 . ./steps.sh
 made=../target/host
@@ -9,8 +11,12 @@ need_archive "$made"
 need cc "gcc libc6-dev"
 need cargo cargo-web
 
+if [ -n "$before" ]; then
+    cc -shared -Wl,-Bsymbolic -Wl,--whole-archive "$before" -Wl,--no-whole-archive -o "$made/before.so"
+    before=$made/before.so
+fi
 say "times, in five runs; about a minute on an idle machine"
-cargo run --offline --locked --quiet --release -p bench
+cargo run --offline --locked --quiet --release -p bench -- ${before:+"$before"}
 say "stack"
 cc -O1 -Wall -Wextra -Iinclude c/stack.c -L"$made" -lflourscoop -o "$made/stack"
 "$made/stack"

@@ -1,5 +1,6 @@
 /* Every call by include/flourscoop.h, from C or C++: document 01's pool case, and one answer and one refusal of each; tiles
    that the screen cuts; the header's room, texts and version. */
+#include <float.h>
 #include <math.h>
 #include <stdio.h>
 #include <string.h>
@@ -111,19 +112,32 @@ static void shapes(void)
     }
 }
 
-/* Units of the table of document 01. */
+/* Units of document 01's table, and where the range and the floats end. */
 static void units(void)
 {
-    int32_t unit = 1;
-    uint32_t number = flourscoop_unit(0.09375f, &unit);
-    expect_that(number == FLOURSCOOP_DONE && unit == 2, "the unit of 0.09375 is 2");
-    number = flourscoop_unit(-16384.03125f, &unit);
-    expect_that(number == FLOURSCOOP_DONE && unit == -262144, "the unit of -16384.03125 is -262,144");
-    number = flourscoop_unit(16383.96875f, &unit);
-    expect_that(number == FLOURSCOOP_OUT_OF_RANGE && unit == 0, "16383.96875 is refused with 7");
-    unit = 1;
-    number = flourscoop_unit(INFINITY, &unit);
-    expect_that(number == FLOURSCOOP_NOT_FINITE && unit == 0, "an infinity is refused with 6");
+    static const struct {
+        float v;
+        uint32_t number;
+        int32_t unit;
+        const char *text;
+    } cases[] = {
+        {0.09375f, FLOURSCOOP_DONE, 2, "the unit of 0.09375 is 2"},
+        {-0.15625f, FLOURSCOOP_DONE, -2, "the unit of -0.15625 is -2"},
+        {-0.0f, FLOURSCOOP_DONE, 0, "the unit of the zero below zero is 0"},
+        {FLT_MIN / 4, FLOURSCOOP_DONE, 0, "the unit of a subnormal is 0"},
+        {16383.9375f, FLOURSCOOP_DONE, 262143, "the unit of 16383.9375 is 262,143"},
+        {16383.96875f, FLOURSCOOP_OUT_OF_RANGE, 0, "16383.96875 is refused with 7"},
+        {-16384.03125f, FLOURSCOOP_DONE, -262144, "the unit of -16384.03125 is -262,144"},
+        {-16384.033203125f, FLOURSCOOP_OUT_OF_RANGE, 0, "the next float below it is refused with 7"},
+        {FLT_MAX, FLOURSCOOP_OUT_OF_RANGE, 0, "the largest float is refused with 7"},
+        {INFINITY, FLOURSCOOP_NOT_FINITE, 0, "an infinity is refused with 6"},
+        {NAN, FLOURSCOOP_NOT_FINITE, 0, "what is no number is refused with 6"},
+    };
+    for (size_t at = 0; at < sizeof cases / sizeof cases[0]; at++) {
+        int32_t unit = 1;
+        uint32_t number = flourscoop_unit(cases[at].v, &unit);
+        expect_that(number == cases[at].number && unit == cases[at].unit, cases[at].text);
+    }
 }
 
 /* Box and corner of M11's triangle, its long side and its first vertex, at tile 6. */

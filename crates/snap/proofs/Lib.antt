@@ -2,7 +2,8 @@ pub mod Sizes
 pub mod OneNearest
 pub mod Unit
 pub mod Product
-pub mod Divided
-pub mod Bits
+pub mod Whole
+pub mod Sum
+pub mod Limit
 pub mod Joins
 pub mod Shapes

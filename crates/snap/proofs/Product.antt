@@ -91,7 +91,7 @@ below-top m j num den h e =
     (subst (λ (x : ℕ). x < 2 ^ 277 * den) e (lt-of-lt-of-le (mul-lt-mul-of-pos-right h (pow-pos 149)) (le-of-eq (mul-right-comm (2 ^ 128) den (2 ^ 149)))))
 
 -- from one fraction to another of the same size
-rescale : (x : Float) (s : Bool) (w l num den : ℕ) → 0 < l → num * l ≡ w * den → HasValue x s w l → HasValue x s num den
+pub rescale : (x : Float) (s : Bool) (w l num den : ℕ) → 0 < l → num * l ≡ w * den → HasValue x s w l → HasValue x s num den
 rescale nan s w l num den p h v = v
 rescale (inf t) s w l num den p h v = v
 rescale (fin t m e) s w l num den p h v = (

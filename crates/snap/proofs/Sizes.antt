@@ -1,13 +1,13 @@
--- Rounding a fraction of naturals: at most one number is nearest to it, a half going to the even one, and the kit's `closest` is that number.
-use mathlib.Core.Path.{_≡_, refl, subst}
-use Prim.Native.Nat.{ℕ, zero, suc, _+_, _*_, _/_, _%_, _≤_, _<_, compare, Ordering, Ordering·lt, Ordering·eq, Ordering·gt}
-use native.Mathlib.Nat.{le-trans, mul-le-mul-right, eq-of-mul-eq-mul-right, div-add-mod', div-le-self, le-div-iff-mul-le, mod-lt, lt-of-not-le, le-antisymm, le-of-suc-le-suc}
+-- Rounding a fraction of naturals: at most one number is nearest to it, a half going to the even one, and the kit's `closest` is that number. It goes
+-- up and down with the fraction by even numbers.
+use mathlib.Core.Path.{_≡_, refl, ap, subst}
+use Prim.Native.Nat.{ℕ, zero, suc, _+_, _-_, _*_, _/_, _%_, _≤_, _<_, compare, Ordering, Ordering·lt, Ordering·eq, Ordering·gt}
+use native.Mathlib.Nat.{le-trans, mul-le-mul-right, eq-of-mul-eq-mul-right, div-add-mod', le-div-iff-mul-le, mod-lt, lt-of-not-le, lt-of-mul-lt-mul-right, le-antisymm, le-of-suc-le-suc}
 use native.Mathlib.Omega.{arith}
 use mathlib.Core.Bool.{not}
 use lib.Dec.{T, isLe, isEq, eqb, leb→le, nleb→lt, eqb→eq, eqb-refl}
 use lib.Arith.{lt-of-le-ne}
 use lib.Ieee.{nearest}
-use lib.Ieee.Fits.{nearest-le}
 use lib.Ieee.Nearest.{closest, nearest-ge}
 
 -- u is at most a half away from n / d on either side, and even where it is just a half away: each side times 2 * d
@@ -34,7 +34,7 @@ size-only D p q =
 
 -- ---- `closest` is one
 
-abbrev pub Compared : Ordering → ℕ → ℕ → Type 0
+abbrev Compared : Ordering → ℕ → ℕ → Type 0
 Compared Ordering·lt a b = a < b
 Compared Ordering·eq a b = a ≡ b
 Compared Ordering·gt a b = b < a
@@ -50,7 +50,7 @@ compared a b =
     go Ordering·gt h k e n = k tt
 
 -- by how twice the remainder r compares with the divisor
-pub by-rest : (n d q r : ℕ) (o : Ordering) → q * d + r ≡ n → r < d → Compared o (r * 2) d → NearestSize n d (nearest q o)
+by-rest : (n d q r : ℕ) (o : Ordering) → q * d + r ≡ n → r < d → Compared o (r * 2) d → NearestSize n d (nearest q o)
 by-rest n d q r Ordering·lt e h c =
     record { under = omega arith; over = omega arith; tie-under = λ t. absurd (omega arith); tie-over = λ t. absurd (omega arith) }
 by-rest n d q r Ordering·eq e h c = go (q % 2) refl
@@ -70,10 +70,35 @@ closest-is n d D = by-rest n d (n / d) (n % d) (compare (n % d * 2) d) (div-add-
 pub closest-at-least : (n k : ℕ) {d : ℕ} → 0 < d → k * d ≤ n → k ≤ closest n d
 closest-at-least n k {d} D h = le-trans (le-div-iff-mul-le D .1 h) (nearest-ge (n / d) (compare (n % d * 2) d))
 
-pub closest-at-most : (n d : ℕ) → closest n d ≤ suc n
-closest-at-most n d = omega (arith, nearest-le (n / d) (compare (n % d * 2) d), div-le-self n d)
+pub closest-at-most : (n k : ℕ) {d : ℕ} → 0 < d → n ≤ k * d → closest n d ≤ k
+closest-at-most n k {d} D h = le-of-suc-le-suc (lt-of-mul-lt-mul-right d {n = suc k} (omega (arith, closest-is n d D .over)))
 
-pub closest-none : (n d : ℕ) → 0 < d → 2 * n ≤ d → closest n d ≡ 0
-closest-none n d D h =
-    size-only D (closest-is n d D)
-    (record { under = omega arith; over = omega arith; tie-under = λ t. refl; tie-over = λ t. refl })
+-- ---- an even number more, and taken from an even number: a half still goes to the same one
+
+module _ (K n : ℕ) {d : ℕ} (D : 0 < d) (E : K % 2 ≡ 0) where
+  nearest-more : {u : ℕ} → NearestSize n d u → NearestSize (n + K * d) d (u + K)
+  nearest-more p =
+      record {
+        under = omega arith;
+        over = omega arith;
+        tie-under = λ t. omega (arith, p .tie-under (omega arith));
+        tie-over = λ t. omega (arith, p .tie-over (omega arith));
+      }
+
+  pub closest-more : closest (n + K * d) d ≡ closest n d + K
+  closest-more = size-only D (closest-is (n + K * d) d D) (nearest-more (closest-is n d D))
+
+  nearest-less : {u v : ℕ} → n ≤ K * d → v + u ≡ K → NearestSize n d u → NearestSize (K * d - n) d v
+  nearest-less {u} {v} h e p =
+      let a : (v + u) * d ≡ K * d = ap (λ (x : ℕ). x * d) e in
+      record {
+        under = omega arith;
+        over = omega arith;
+        tie-under = λ t. omega (arith, p .tie-over (omega arith));
+        tie-over = λ t. omega (arith, p .tie-under (omega arith));
+      }
+
+  pub closest-less : n ≤ K * d → closest (K * d - n) d ≡ K - closest n d
+  closest-less h =
+      size-only D (closest-is (K * d - n) d D)
+      (nearest-less h (omega (arith, closest-at-most n K D h)) (closest-is n d D))

@@ -2,10 +2,8 @@
 // sixteen times it, a half going to the even one. Every f32 is answered: no public function asks anything.
 ghost use mathlib.Core.Path.{_≡_};
 ghost use mathlib.Core.Bool.{not};
-ghost use Prim.Native.Nat.{_<_, _^_};
 ghost use lib.Dec.{T};
 ghost use lib.Ieee.{isNan};
-ghost use lib.Ieee.Nearest.{closest};
 ghost use lib.Ieee.Scale.{finite as isFinite};
 ghost use Rattle.snap.specs.Scaled.{Scaled};
 ghost use Rattle.snap.specs.Unit.{numberOf, accept, roundedOf, unitOf};
@@ -43,10 +41,11 @@ pub enum SnappedShape {
     Refused(u32),
 }
 
-// The weights of the sign and of the leading digit in an f32's bits.
-const SIGN: u32 = 0x8000_0000;
+// The size of a number of units up to which it is rounded: above 262,144.5, which rounds into the range below zero, and at most 2^22.
+const LARGEST: f32 = 524_288.0;
 
-const LEADING: u32 = 0x80_0000;
+// 1.5 * 2^23. From 2^23 to 2^24 the f32 are the whole numbers, and there this and a number of units, up to 2^22 in size, have their sum.
+const SHIFT: f32 = 12_582_912.0;
 
 // Whether v is a number and no infinity.
 fn finite(v: f32) -> bool
@@ -66,27 +65,6 @@ fn scaled(v: f32) -> f32
     v * 16.0
 }
 
-// n / 2^d to the nearest whole number, a half to the even one.
-fn nearest(n: u32, d: u32) -> u32
-    requires { ⌜ (n < 16777216) × (d < 32) ⌝ }
-    ensures { λ r. ⌜ r ≡ closest n (2 ^ d) ⌝ }
-{
-    let power = 1u32 << d;
-    let whole = n >> d;
-    let rest = n - whole * power;
-    let twice = rest + rest;
-    if twice < power {
-        return whole;
-    }
-    if power < twice {
-        return whole + 1;
-    }
-    if whole % 2 == 0 {
-        return whole;
-    }
-    whole + 1
-}
-
 // The unit where it is in range, and else the refusal 7.
 fn accepted(unit: i32) -> Snapped
     ensures { λ r. ⌜ r ≡ accept unit ⌝ }
@@ -97,28 +75,22 @@ fn accepted(unit: i32) -> Snapped
     Snapped::Refused(7)
 }
 
-// The whole number nearest to a number of units, a half to the even one, from the sign, the exponent and the digits of its bits.
-// Below a half it is 0. From 2^19 on, where an infinity is too, no rounding comes back into range.
+// The whole number nearest to a number of units, a half to the even one: the sum is rounded to it, and the difference is exact.
+// Above `LARGEST` in size, where the infinities are, no rounding comes back into range.
 fn rounded(units: f32) -> Snapped
     requires { ⌜ T (not (isNan units)) ⌝ }
     ensures { λ r. ⌜ r ≡ roundedOf units ⌝ }
 {
-    let bits = f32::to_bits(units);
-    let exponent = bits % SIGN / LEADING;
-    let digits = bits % LEADING;
-    if exponent < 126 {
-        return Snapped::Unit(0);
-    }
-    if 145 < exponent {
+    if units < -LARGEST {
         return Snapped::Refused(7);
     }
-    let size = nearest(LEADING + digits, 150 - exponent);
-    let unit = size as i32;
-    if bits < SIGN {
-        return accepted(unit);
+    if LARGEST < units {
+        return Snapped::Refused(7);
     }
-    let below = 0 - unit;
-    accepted(below)
+    let sum = units + SHIFT;
+    let whole = sum - SHIFT;
+    let unit = whole as i32;
+    accepted(unit)
 }
 
 // The unit of a coordinate; 7 where it is out of range, as it is where the product of a finite coordinate is infinite; and 6 where

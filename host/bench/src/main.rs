@@ -1,12 +1,16 @@
-//! Nanoseconds per call of the archive beside a plain Rust binner, in five runs. Screen 800 by 480, s = 4, 2,048 blocks.
+//! Nanoseconds per call of the archive beside a plain Rust binner, in five runs; with another version's archive, its unit too. Screen 800 by 480, s = 4, 2,048 blocks.
 
+mod before;
 mod clock;
 mod plain;
 mod table;
 
+use std::env;
 use std::hint::black_box;
 
-use flourscoop::{raw, room, unit, Screen, Shape, Vertex};
+use before::Before;
+use flourscoop::raw::{self, Answer};
+use flourscoop::{room, Screen, Shape, Vertex};
 use plain::Plain;
 use table::{Beside, Row};
 
@@ -229,33 +233,38 @@ fn each(coordinates: &[f32], call: impl Fn(f32)) -> f64 {
     )
 }
 
-fn snap() -> Row {
+/// The unit of each coordinate, by an archive and by plain Rust.
+fn snap(call: &str, unit: impl Fn(f32) -> Answer<1>) -> Row {
     let coordinates = coordinates();
     for &v in &coordinates {
-        assert_eq!(unit(v).ok(), plain::unit(v), "{v}");
+        let (number, value) = plain::unit(v).map_or_else(|number| (number, 0), |unit| (0, unit as u32));
+        assert_eq!(unit(v), Answer { number, values: [value] }, "{v}");
     }
     let archive = each(&coordinates, |v| {
-        black_box(raw::unit(v));
+        black_box(unit(v));
     });
     let plain = each(&coordinates, |v| {
-        black_box(plain::unit(v));
+        let _ = black_box(plain::unit(v));
     });
-    row("unit, a coordinate", archive, Beside::Plain(plain))
+    row(call, archive, Beside::Plain(plain))
 }
 
-fn run() -> Vec<Row> {
+fn run(before: Option<&Before>) -> Vec<Row> {
     let mut rows = vec![opening()];
     rows.extend(calls_on("1,500 small shapes", &small(1500), Beside::PlainOfARange));
     rows.extend(calls_on("31 screen-wide shapes", &wide(31), Beside::Plain));
-    rows.extend([least_bin(), snap()]);
+    rows.extend([least_bin(), snap("unit, a coordinate", raw::unit)]);
+    rows.extend(before.map(|before| snap("unit, a coordinate, by the archive before", |v| before.unit(v))));
     rows
 }
 
+/// An argument is the shared object of the archive before, whose unit stands beside.
 fn main() {
+    let before = env::args().nth(1).map(|path| Before::open(&path).unwrap_or_else(|error| panic!("{error}")));
     let runs: Vec<Vec<Row>> = (1..=RUNS)
         .map(|count| {
             eprintln!("run {count} of {RUNS}");
-            run()
+            run(before.as_ref())
         })
         .collect();
     table::print(&runs);

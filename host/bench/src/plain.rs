@@ -108,10 +108,17 @@ impl Plain {
     }
 }
 
-/// The unit of a coordinate, where it has one.
-pub fn unit(v: f32) -> Option<i32> {
+/// The unit of a coordinate, or the number of its refusal. A call, as the archive's is.
+#[inline(never)]
+pub fn unit(v: f32) -> Result<i32, u32> {
+    if !v.is_finite() {
+        return Err(6);
+    }
     let scaled = (v * 16.0).round_ties_even();
-    (-262_144.0..=262_143.0).contains(&scaled).then_some(scaled as i32)
+    if !(-262_144.0..=262_143.0).contains(&scaled) {
+        return Err(7);
+    }
+    Ok(scaled as i32)
 }
 
 #[cfg(test)]

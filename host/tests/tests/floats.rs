@@ -136,6 +136,23 @@ fn a_unit_off_misses_a_tile() {
     }
 }
 
+/// Numbers of units at which an answer turns or a sum or product in f32 stops being exact, and the patterns beside them, of
+/// both signs: at zero these are the least subnormals, and past the largest f32 the infinities and patterns of no number.
+#[test]
+fn units_where_answers_turn() {
+    let whole = [0.0, 1.0, 262_143.0, 262_144.0, 262_145.0, 524_288.0];
+    let half = [0.5, 1.5, 2.5, 262_142.5, 262_143.5, 262_144.5, 262_145.5, 524_287.5];
+    let past = [4_194_304.0, 8_388_608.0, 12_582_912.0, 16_777_216.0];
+    let turns = whole.into_iter().chain(half).chain(past).map(|units: f32| units / 16.0);
+    let ends = [f32::MIN_POSITIVE, 2f32.powi(124), f32::MAX];
+    for bits in turns.chain(ends).map(f32::to_bits) {
+        for beside in bits.saturating_sub(3)..=bits + 3 {
+            Pattern(beside).run().unwrap();
+            Pattern(beside | 1 << 31).run().unwrap();
+        }
+    }
+}
+
 #[test]
 fn units_are_the_model_s() {
     hold(0xF100_0005, 0x1_0000 + 2_000_000, |_: &Pattern, ()| ());

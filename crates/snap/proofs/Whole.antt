@@ -1,7 +1,7 @@
 -- From 2 ^ 23 to 2 ^ 24 the f32 are the whole numbers: a fraction there is rounded to the whole number nearest to it, a half to the even one.
 use mathlib.Core.Path.{_≡_, sym, ap, _∙_, subst}
 use Prim.Native.Nat.{ℕ, _-_, _*_, _/_, _^_, _≤_, _<_}
-use native.Mathlib.Nat.{le-trans, le-of-eq, le-of-lt, lt-of-lt-of-le, lt-of-le-of-lt, lt-of-not-le, not-le-of-lt, le-antisymm, mul-one, mul-comm, mul-assoc, mul-left-comm, mul-right-comm, mul-pos, mul-le-mul-right, mul-lt-mul-of-pos-right, le-div-iff-mul-le, div-lt-iff-lt-mul}
+use native.Mathlib.Nat.{le-trans, le-of-eq, le-of-lt, lt-of-lt-of-le, lt-of-le-of-lt, lt-of-not-le, not-le-of-lt, le-antisymm, mul-one, mul-comm, mul-assoc, mul-right-comm, mul-pos, mul-le-mul-right, mul-lt-mul-of-pos-right, le-div-iff-mul-le, div-lt-iff-lt-mul}
 use mathlib.Core.Bool.{false}
 use lib.Dec.{lit<}
 use lib.Pow.{pow-pos, pow-mono}
@@ -9,16 +9,12 @@ use lib.Ieee.{binary32, size, round}
 use lib.Ieee.Digits.{size-lt, size-le}
 use lib.Ieee.Exact.{HasValue}
 use lib.Ieee.Nearest.{closest, closest-same}
-use lib.Ieee.Order.{drop}
 use lib.Ieee.Scale.{grid, overflow, round-val}
 use Rattle.snap.proofs.Sizes.{closest-at-most}
 use Rattle.snap.proofs.Product.{rescale}
 
 module _ (n d : ℕ) (D : 0 < d) (low : 2 ^ 23 * d ≤ n) (high : n < 2 ^ 24 * d) where
-  -- n / d of the smallest f32, of which 2 ^ 149 are 1
-  count : ℕ
-  count = n * 2 ^ 149 / d
-
+  -- n / d is so many of the smallest f32, of which 2 ^ 149 are 1
   at-least : 2 ^ 172 ≤ n * 2 ^ 149 / d
   at-least = le-div-iff-mul-le D .1 (le-trans (le-of-eq (mul-right-comm (2 ^ 23) (2 ^ 149) d)) (mul-le-mul-right (2 ^ 149) low))
 
@@ -35,7 +31,7 @@ module _ (n d : ℕ) (D : 0 < d) (low : 2 ^ 23 * d ≤ n) (high : n < 2 ^ 24 * d
   in-smallest =
       ap (λ (z : ℕ). closest (n * 2 ^ 149) (d * 2 ^ (z - 24)) * 2 ^ (z - 24)) digits
       ∙ ap (λ (u : ℕ). u * 2 ^ 149)
-      (closest-same (n * 2 ^ 149) (d * 2 ^ 149) n d (mul-pos D (pow-pos 149)) D (simp (mul-assoc, mul-comm, mul-left-comm)))
+      (closest-same (n * 2 ^ 149) (d * 2 ^ 149) n d (mul-pos D (pow-pos 149)) D (simp (mul-assoc, mul-comm)))
 
   finite : grid binary32 n d < overflow binary32
   finite =

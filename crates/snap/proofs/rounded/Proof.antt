@@ -16,6 +16,13 @@ returns-2 : tie.Need-returns-2
 unfolding ofBits neg
 returns-2 c = sym (above-refused _ _ _ (c .if2 .taken) (lit≤ tt))
 
+returns-3 : tie.Need-returns-3
+unfolding ofBits neg
+returns-3 c =
+    let at = c .before .before in
+    let small = within _ _ _ (at .before .before .pre) (at .before .if1 .left) (at .if2 .left) in
+    c .accepted .ensures ∙ rounds _ _ _ (lit≤ tt) (lit< tt) refl _ small .right
+
 float-to-int-unit : tie.Need-float-to-int-unit
 unfolding ofBits neg
 float-to-int-unit c =
@@ -25,13 +32,6 @@ float-to-int-unit c =
 
 accepted-requires : tie.Need-accepted-requires
 accepted-requires c κs = search needs
-
-returns-3 : tie.Need-returns-3
-unfolding ofBits neg
-returns-3 c =
-    let at = c .before .before in
-    let small = within _ _ _ (at .before .before .pre) (at .before .if1 .left) (at .if2 .left) in
-    c .accepted .ensures ∙ rounds _ _ _ (lit≤ tt) (lit< tt) refl _ small .right
 
 pub rounded-spec : {M : Type 1} → statement M
 rounded-spec = tie.close (tie.spec returns returns-2 float-to-int-unit accepted-requires returns-3)

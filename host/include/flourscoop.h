@@ -32,6 +32,9 @@
  *   lesser of (c+1)*T and 16*width, and from r*T to the lesser of (r+1)*T and 16*height: a shape that only meets a side or
  *   a corner touches the tile. The tiles cover the screen, from 0 to 16*width and from 0 to 16*height, ends included, and
  *   nothing past it: a shape that has no point there is accepted and listed nowhere.
+ *   A coordinate in pixels goes to its unit by a product and a sum in float. The processor is to round these to the
+ *   nearest, a half to the even one, as it does unless a program has changed its mode; in another mode a unit may be one
+ *   off. Where it flushes subnormal numbers to zero, no answer changes.
  *   Vertices may come in any order and may coincide; a triangle without area is its longest side, a line without length
  *   its point.
  *

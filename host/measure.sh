@@ -1,9 +1,9 @@
 #!/usr/bin/env bash
 # The measures of docs/PERFORMANCE.md, of target/host/libflourscoop.a as host/build.sh made it: nanoseconds per call beside
 # a plain Rust binner, stack per call, code size, and what the archive needs from outside.
-# host/measure.sh ARCHIVE times the unit of that archive too, of another version, in the same run.
+# host/measure.sh ARCHIVE times the unit of another version's archive too, in the same run.
 set -eu
-before=${1:+$(realpath -e -- "$1")}
+other=${1:+$(realpath -e -- "$1")}
 cd "$(dirname "${BASH_SOURCE[0]}")"
 . ./steps.sh
 made=../target/host
@@ -11,12 +11,13 @@ need_archive "$made"
 need cc "gcc libc6-dev"
 need cargo cargo-web
 
-if [ -n "$before" ]; then
-    cc -shared -Wl,-Bsymbolic -Wl,--whole-archive "$before" -Wl,--no-whole-archive -o "$made/before.so"
-    before=$made/before.so
+if [ -n "$other" ]; then
+    nm -g --defined-only "$other" | awk 'NF == 3 { print $3, "other_" $3 }' >"$made/other.names"
+    objcopy --redefine-syms="$made/other.names" "$other" "$made/libother.a"
+    export FLOURSCOOP_OTHER=$PWD/$made
 fi
 say "times, in five runs; about a minute on an idle machine"
-cargo run --offline --locked --quiet --release -p bench -- ${before:+"$before"}
+cargo run --offline --locked --quiet --release -p bench
 say "stack"
 cc -O1 -Wall -Wextra -Iinclude c/stack.c -L"$made" -lflourscoop -o "$made/stack"
 "$made/stack"

@@ -1,18 +1,17 @@
-//! Nanoseconds per call of the archive beside a plain Rust binner, in five runs; with another version's archive, its unit too. Screen 800 by 480, s = 4, 2,048 blocks.
+//! Nanoseconds per call of the archive beside a plain Rust binner, in five runs; of another version's archive, where one is
+//! given, the unit too. Screen 800 by 480, s = 4, 2,048 blocks.
 
-mod before;
 mod clock;
 mod plain;
 mod table;
+mod unit;
 
-use std::env;
 use std::hint::black_box;
 
-use before::Before;
-use flourscoop::raw::{self, Answer};
-use flourscoop::{room, Screen, Shape, Vertex};
+use flourscoop::{raw, room, Screen, Shape, Vertex};
 use plain::Plain;
 use table::{Beside, Row};
+use unit::Unit;
 
 const SCREEN: Screen = Screen { width: 800, height: 480, s: 4 };
 const BLOCKS: u32 = 2048;
@@ -214,57 +213,56 @@ fn least_bin() -> Row {
     row("bin, a triangle off a screen of one tile, no block", bin, Beside::Nothing)
 }
 
-/// Coordinates on and around the screen, eighths of a unit, so that one in eight lies half way between two units.
+/// Coordinates on and around the screen in eighths of a unit, so that one in eight lies half way between two units; in no
+/// order, so that nothing of what they answer can be foreseen.
 fn coordinates() -> Vec<f32> {
-    (0..4096u32).map(|k| (k.wrapping_mul(2_654_435_761) >> 12) as f32 / 128.0 - 2048.0).collect()
+    let mut state = 88_172_645_463_325_252_u64;
+    let mut next = || {
+        state ^= state << 13;
+        state ^= state >> 7;
+        state ^= state << 17;
+        (state >> 44) as f32 / 128.0 - 2048.0
+    };
+    (0..1 << 16).map(|_| next()).collect()
 }
 
-/// The time of a call for each of some coordinates.
-fn each(coordinates: &[f32], call: impl Fn(f32)) -> f64 {
-    const TIMES: usize = 25;
+/// The time of a call for each of some coordinates. What they answer is added up, so that none is left out.
+fn each(coordinates: &[f32], call: impl Fn(f32) -> Result<i32, u32>) -> f64 {
+    let word = |&v: &f32| call(v).map_or_else(|number| number, |unit| unit as u32);
     time(
-        TIMES * coordinates.len(),
+        coordinates.len(),
         || (),
         |()| {
-            for _ in 0..TIMES {
-                coordinates.iter().for_each(|&v| call(black_box(v)));
-            }
+            black_box(black_box(coordinates).iter().map(word).fold(0, u32::wrapping_add));
         },
     )
 }
 
 /// The unit of each coordinate, by an archive and by plain Rust.
-fn snap(call: &str, unit: impl Fn(f32) -> Answer<1>) -> Row {
+fn snap(call: &str, unit: Unit) -> Row {
     let coordinates = coordinates();
     for &v in &coordinates {
-        let (number, value) = plain::unit(v).map_or_else(|number| (number, 0), |unit| (0, unit as u32));
-        assert_eq!(unit(v), Answer { number, values: [value] }, "{v}");
+        assert_eq!(unit.call(v), plain::unit(v), "{v}");
     }
-    let archive = each(&coordinates, |v| {
-        black_box(unit(v));
-    });
-    let plain = each(&coordinates, |v| {
-        let _ = black_box(plain::unit(v));
-    });
+    let archive = each(&coordinates, |v| unit.call(v));
+    let plain = each(&coordinates, plain::unit);
     row(call, archive, Beside::Plain(plain))
 }
 
-fn run(before: Option<&Before>) -> Vec<Row> {
+fn run() -> Vec<Row> {
     let mut rows = vec![opening()];
     rows.extend(calls_on("1,500 small shapes", &small(1500), Beside::PlainOfARange));
     rows.extend(calls_on("31 screen-wide shapes", &wide(31), Beside::Plain));
-    rows.extend([least_bin(), snap("unit, a coordinate", raw::unit)]);
-    rows.extend(before.map(|before| snap("unit, a coordinate, by the archive before", |v| before.unit(v))));
+    rows.extend([least_bin(), snap("unit, a coordinate", Unit::HERE)]);
+    rows.extend(Unit::OTHER.map(|unit| snap("unit, a coordinate, by the other archive", unit)));
     rows
 }
 
-/// An argument is the shared object of the archive before, whose unit stands beside.
 fn main() {
-    let before = env::args().nth(1).map(|path| Before::open(&path).unwrap_or_else(|error| panic!("{error}")));
     let runs: Vec<Vec<Row>> = (1..=RUNS)
         .map(|count| {
             eprintln!("run {count} of {RUNS}");
-            run(before.as_ref())
+            run()
         })
         .collect();
     table::print(&runs);

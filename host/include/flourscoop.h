@@ -18,10 +18,10 @@
  *   Calls on different pools are independent and may run at the same time. Calls on one pool must not overlap; two calls
  *   of which each only audits or reads may. Calls that take no pool may always run.
  *
- * STACK, in bytes, as measured, on Arm of version 0.1.0; of bin's, 16,384 list the touched tiles
+ * STACK, in bytes, as measured, on x86-64 of version 0.2.0; of bin's, 16,384 list the touched tiles
  *               bin      audit   read    release   corner   box   open   unit
  *     x86-64    17,296   2,240   2,272   2,272     352      192   64     16
- *     Arm       17,104   2,256   2,304   2,288     240      160   64     not measured
+ *     Arm       17,216   2,256   2,304   2,288     240      160   64     32
  *
  * SCREEN AND UNITS
  *   A screen has a width and a height of 1 to 4,096 pixels. A tile is a square of 2^s by 2^s pixels, s from 3 to 6, cut

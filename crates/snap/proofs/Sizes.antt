@@ -1,5 +1,5 @@
--- Rounding a fraction of naturals: at most one number is nearest to it, a half going to the even one, and the kit's `closest` is that number. It goes
--- up and down with the fraction by even numbers.
+-- Rounding a fraction of naturals: at most one number is nearest to it, a half going to the even one, and the kit's `closest` is that number. Where
+-- an even number is added to the fraction, or the fraction taken from one, it follows.
 use mathlib.Core.Path.{_≡_, refl, ap, subst}
 use Prim.Native.Nat.{ℕ, zero, suc, _+_, _-_, _*_, _/_, _%_, _≤_, _<_, compare, Ordering, Ordering·lt, Ordering·eq, Ordering·gt}
 use native.Mathlib.Nat.{le-trans, mul-le-mul-right, eq-of-mul-eq-mul-right, div-add-mod', le-div-iff-mul-le, mod-lt, lt-of-not-le, lt-of-mul-lt-mul-right, le-antisymm, le-of-suc-le-suc}

@@ -41,12 +41,12 @@ pub enum SnappedShape {
     Refused(u32),
 }
 
-// Above this size no number of units rounds into range, as 262,144.5 below zero still does; up to it the sum with `SHIFT` lies
+// No number of units above this size rounds into range, while 262,144.5 below zero still does. Up to it the sum with `SHIFT` lies
 // from 2^23 to 2^24.
 const LARGEST: f32 = 524_288.0;
 
-// 1.5 * 2^23. From 2^23 to 2^24 the f32 are the whole numbers, so that the sum is rounded to one; and as this is even, a half goes
-// to the even one.
+// 1.5 * 2^23. From 2^23 to 2^24 the f32 are the whole numbers, so that the sum is rounded to one and the difference is exact; and as
+// this is even, a half goes to the even one.
 const SHIFT: f32 = 12_582_912.0;
 
 // Whether v is a number and no infinity.
@@ -77,8 +77,7 @@ fn accepted(unit: i32) -> Snapped
     Snapped::Refused(7)
 }
 
-// The whole number nearest to a number of units, a half to the even one: the sum is rounded to a whole number, and the difference
-// is exact. The range is tested after that.
+// The whole number nearest to a number of units, a half to the even one; and 7 where that is out of range, or the number infinite.
 fn rounded(units: f32) -> Snapped
     requires { ⌜ T (not (isNan units)) ⌝ }
     ensures { λ r. ⌜ r ≡ roundedOf units ⌝ }

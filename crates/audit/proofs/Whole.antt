@@ -68,12 +68,13 @@ module _ (L : Layout) (0<ids : 0 < L .ids) (T N : ℕ) (p : List ℕ) where
       record {
         blocks = chainOf L p (start L T) t;
         list = take (tileWord L p t 0) (laid L (blockWord L T p) (chainOf L p (start L T) t));
+        mark = tileWord L p t 3;
       }
 
   abbrev stateFound : State
   stateFound = record { free = freeOf L p (start L T); tiles = row T tileFound }
 
-  tile-shows : (t : ℕ) → TileRight L p (start L T) N t → TileShows L T p t (tileFound t)
+  tile-shows : (t : ℕ) → TileRight L p (start L T) N t → TileShows L T N p t (tileFound t)
   unfolding blockWord
   tile-shows t h =
       let q = tileWord L p t 0 in
@@ -88,6 +89,9 @@ module _ (L : Layout) (0<ids : 0 < L .ids) (T N : ℕ) (p : List ℕ) where
         many = many ∙ ap (λ (k : ℕ). ceil k (L .ids)) (sym len);
         in-range = λ i lt. ids-filled L (blockWord L T p) q bs (h .run .filled) enough i (omega arith);
         held = held L (blockWord L T p) N (tileWord L p t 1) q bs (h .run .chain) (h .run .filled);
+        mark = refl;
+        mark≥ = rw len (h .mark .above);
+        mark≤ = h .mark .below;
       }
 
   pub shows-found : ChainsRight L p (start L T) N T → Shows L T N p stateFound
@@ -157,6 +161,7 @@ module _ (L : Layout) (0<ids : 0 < L .ids) (T N : ℕ) (p : List ℕ) where
               run-of (tileWord L p t 1) (tileWord L p t 0) (ceil (tileWord L p t 0) (L .ids)) (tileOf s t .blocks) (tile-is t lt) (tile-chain t lt)
               (rw (x .entries) (filled-held L (blockWord L T p) (tileOf s t .blocks) (tileOf s t .list) (x .in-range) (x .held)));
           last = x .last ∙ ap (lastLink 0) (tile-is t lt);
+          mark = record { above = rw (x .entries, x .mark) (x .mark≥); below = rw (x .mark) (x .mark≤) };
         }
 
     free-right : FreeRight L p (start L T) N

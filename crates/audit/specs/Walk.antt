@@ -36,6 +36,11 @@ pub record Passes (r : Bool) (P : Type 0) (n : ℕ) (v w : List ℕ) (count : �
   pub yes : r ≡ true → P × Marked v w count
   pub no : r ≡ false → P → Apart n v count → ⊥
 
+-- tile t's mark is at least its entries, and at most what n blocks hold
+pub record MarkRight (L : Layout) (p : List ℕ) (n t : ℕ) : Type 0 where
+  pub above : tileWord L p t 0 ≤ tileWord L p t 3
+  pub below : tileWord L p t 3 ≤ L .ids * n
+
 module _ (L : Layout) (p : List ℕ) (from : ℕ) where
   -- the s blocks that the links lead to from `link` on
   abbrev pub chainFrom : (s link : ℕ) → List ℕ
@@ -60,10 +65,11 @@ module _ (L : Layout) (p : List ℕ) (from : ℕ) where
   abbrev pub freeOf : List ℕ
   freeOf = chainFrom (headerWord p 4) (headerWord p 5)
 
-  -- tile t has its chain, and names its last block
+  -- tile t has its chain, names its last block, and its mark is right
   pub record TileRight (n t : ℕ) : Type 0 where
     pub run : Run L (blockWordFrom L p from) n (tileWord L p t 1) (tileWord L p t 0) (ceil (tileWord L p t 0) (L .ids))
     pub last : tileWord L p t 2 ≡ lastLink 0 (chainOf t)
+    pub mark : MarkRight L p n t
 
   abbrev pub TilesRight : (n count : ℕ) → Type 0
   TilesRight n count = (t : ℕ) → t < count → TileRight n t

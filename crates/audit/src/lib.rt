@@ -25,7 +25,7 @@ ghost use Rattle.pool.specs.Words.{edition};
 ghost use Rattle.pool.specs.State.{times};
 ghost use Rattle.pool.specs.Sound.{screenOf, Opened};
 ghost use Rattle.audit.specs.Chain.{Places, timesInFirst};
-ghost use Rattle.audit.specs.Walk.{blockStart, tileStart, blockWordFrom, WalkSays, Passes, chainOf, TileRight, TilesRight, ChainsRight};
+ghost use Rattle.audit.specs.Walk.{blockStart, tileStart, blockWordFrom, WalkSays, Passes, chainOf, MarkRight, TileRight, TilesRight, ChainsRight};
 ghost use Rattle.audit.specs.Answer.{HeaderOf, AuditFinds};
 
 // The last id place of a block.
@@ -124,11 +124,27 @@ fn walk(
     Walked::Ends(last)
 }
 
-// Whether a tile has its chain and names the last block of it. The chain's blocks are marked.
+// Whether a tile's mark is at least its entries, and at most what all blocks hold.
+fn mark_right(pool: &[u32], blocks: u32, tile: Tile) -> bool
+    requires { ⌜ tileStart edition (tile .0 + 1) ≤ length (now pool) ⌝ }
+    ensures { λ r. ⌜ Says r (MarkRight edition (now (pool .entry)) blocks (tile .0)) ⌝ }
+{
+    let at = HEADER_WORDS + TILE_WORDS * wide(tile.0);
+    let mark = wide(pool[at + 3]);
+    if mark < wide(pool[at]) {
+        return false;
+    }
+    mark <= BLOCK_IDS * wide(blocks)
+}
+
+// Whether a tile has its chain, names the last block of it and has a right mark. The chain's blocks are marked.
 fn tile_right(pool: &[u32], marks: &mut [u8], from: usize, blocks: u32, tile: Tile) -> bool
     requires { ⌜ (blockStart edition from blocks ≤ length (now pool)) × (blocks ≤ length (now marks)) × (tileStart edition (tile .0 + 1) ≤ length (now pool)) ⌝ }
     ensures { λ r. ⌜ Passes r (TileRight edition (now (pool .entry)) from blocks (tile .0)) blocks (now (marks .entry)) (now (marks .exit)) (λ b. times b (chainOf edition (now (pool .entry)) from (tile .0))) ⌝ }
 {
+    if !mark_right(pool, blocks, tile) {
+        return false;
+    }
     let at = HEADER_WORDS + TILE_WORDS * wide(tile.0);
     let q = wide(pool[at]);
     let steps = (q + LAST_ID) / BLOCK_IDS;

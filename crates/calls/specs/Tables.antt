@@ -12,7 +12,7 @@ use Rattle.walk.specs.Touched.{TouchedTiles}
 use Rattle.snap.specs.declared.PixelShape.{PixelShape}
 use Rattle.snap.specs.declared.SnappedShape.{SnappedShape}
 use Rattle.snap.specs.Shapes.{shapeOf}
-use Rattle.pool.specs.Words.{edition, headerWord}
+use Rattle.pool.specs.Words.{edition, headerWord, tileWord}
 use Rattle.pool.specs.Sound.{Sound, screenOf, tilesOf}
 use Rattle.pool.specs.Lists.{listOf}
 use Rattle.lists.specs.Appending.{need, appendAll}
@@ -20,10 +20,15 @@ use Rattle.lists.specs.Releasing.{release}
 use Rattle.calls.specs.declared.Binned.{Binned}
 use Rattle.calls.specs.declared.Released.{Released}
 use Rattle.calls.specs.declared.Found.{Found}
+use Rattle.calls.specs.declared.HighWater.{HighWater}
 
 -- the list of tile t in the words p
 abbrev pub listIn : List ℕ → (t : ℕ) → List ℕ
 listIn p t = listOf edition (tilesOf p) p t
+
+-- the mark of tile t in the words p
+abbrev pub markIn : List ℕ → (t : ℕ) → ℕ
+markIn p t = tileWord edition p t 3
 
 -- word 4: how many blocks are free
 abbrev pub freeIn : List ℕ → ℕ
@@ -64,6 +69,12 @@ pub data ReadSays (p : List ℕ) (t place : ℕ) (a : Found) : Type 0 where
   no-tile : Sound edition p → tilesOf p ≤ t → a ≡ record { number = 9; id = 0 } → ReadSays p t place a
   past : Sound edition p → t < tilesOf p → length (listIn p t) ≤ place → a ≡ record { number = 10; id = 0 } → ReadSays p t place a
   done : Sound edition p → t < tilesOf p → place < length (listIn p t) → a ≡ record { number = 0; id = getD (listIn p t) place 0 } → ReadSays p t place a
+
+-- the mark of a tile: 4, 9
+pub data HighWaterSays (p : List ℕ) (t : ℕ) (a : HighWater) : Type 0 where
+  damaged : (Sound edition p → ⊥) → a ≡ record { number = 4; entries = 0 } → HighWaterSays p t a
+  no-tile : Sound edition p → tilesOf p ≤ t → a ≡ record { number = 9; entries = 0 } → HighWaterSays p t a
+  done : Sound edition p → t < tilesOf p → a ≡ record { number = 0; entries = markIn p t } → HighWaterSays p t a
 
 -- release: 4, 9
 pub data ReleaseSays (p : List ℕ) (t : ℕ) (a : Released) (q : List ℕ) : Type 0 where

@@ -17,7 +17,7 @@ ghost use Rattle.pool.specs.Sound.{Sound};
 ghost use Rattle.pool.specs.Opening.{OpenSays};
 ghost use Rattle.shape.specs.Shape.{InRange};
 ghost use Rattle.audit.specs.Answer.{HeaderOf};
-ghost use Rattle.calls.specs.Tables.{AuditSays, refusedBin, PlaceSays, BinSays, BinPixelsSays, ReadSays, ReleaseSays};
+ghost use Rattle.calls.specs.Tables.{AuditSays, refusedBin, PlaceSays, BinSays, BinPixelsSays, ReadSays, HighWaterSays, ReleaseSays};
 ghost use Prim.Native.Nat.{_<_};
 ghost use Rattle.calls.specs.Questions.{QuestionSays, notAsked, BoxSays, CornerSays};
 ghost use Rattle.calls.specs.Units.{UnitSays};
@@ -39,6 +39,12 @@ pub struct Released {
 pub struct Found {
     pub number: u32,
     pub id: u32,
+}
+
+// What a question about a tile's mark answers: its number, and the most entries that the tile had since the opening.
+pub struct HighWater {
+    pub number: u32,
+    pub entries: u32,
 }
 
 // What a question about touching answers: its number, and whether the shape touches the tile.
@@ -155,6 +161,27 @@ pub fn read(pool: &[u32], tile: Tile, place: u32) -> Found
     }
     let id = lists::id_at(pool, tiles, tile, place);
     Found { number: 0, id }
+}
+
+// The most entries that a tile's list had since the opening: 0 and that, or 4, 9 in that order.
+pub fn high_water(pool: &[u32], tile: Tile) -> HighWater
+    ensures { λ r. ⌜ HighWaterSays (now (pool .entry)) (tile .0) r ⌝ }
+{
+    let audited = audit::audit(pool);
+    let Audited::Sound(header) = audited else {
+        return HighWater {
+            number: 4,
+            entries: 0,
+        };
+    };
+    if header.tiles <= tile.0 {
+        return HighWater {
+            number: 9,
+            entries: 0,
+        };
+    }
+    let entries = lists::mark(pool, wide(header.tiles), tile);
+    HighWater { number: 0, entries }
 }
 
 // Empties a tile's list and gives its blocks back: 0 and how many these were, or 4, 9 in that order.

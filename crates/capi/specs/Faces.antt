@@ -12,6 +12,7 @@ use Rattle.calls.specs.declared.Rounded.{Rounded}
 use Rattle.calls.specs.declared.Binned.{Binned}
 use Rattle.calls.specs.declared.Released.{Released}
 use Rattle.calls.specs.declared.Found.{Found}
+use Rattle.calls.specs.declared.HighWater.{HighWater}
 use Rattle.calls.specs.declared.Answered.{Answered}
 
 abbrev pub screen : (width height s : ℕ) → Screen
@@ -34,6 +35,9 @@ released number blocks = record { number = number; blocks = blocks }
 
 abbrev pub found : (number id : ℕ) → Found
 found number id = record { number = number; id = id }
+
+abbrev pub highWater : (number entries : ℕ) → HighWater
+highWater number entries = record { number = number; entries = entries }
 
 -- an answer with this number, whose yes is written as 1 and whose no as 0, is one that Says allows
 pub record Told (Says : Answered → Type 0) (number touches : ℕ) : Type 0 where

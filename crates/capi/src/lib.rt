@@ -9,10 +9,10 @@ use snap::PixelVertex;
 ghost use Rattle.pool.specs.Words.{edition};
 ghost use Rattle.pool.specs.Opening.{OpenSays};
 ghost use Rattle.shape.specs.declared.Shape.the-variants.{Point, Line, Triangle};
-ghost use Rattle.calls.specs.Tables.{AuditSays, BinSays, BinPixelsSays, ReadSays, ReleaseSays};
+ghost use Rattle.calls.specs.Tables.{AuditSays, BinSays, BinPixelsSays, ReadSays, HighWaterSays, ReleaseSays};
 ghost use Rattle.calls.specs.Questions.{BoxSays, CornerSays};
 ghost use Rattle.calls.specs.Units.{UnitSays};
-ghost use Rattle.capi.specs.Faces.{screen, vertex, pixel, binned, released, found, rounded, Told};
+ghost use Rattle.capi.specs.Faces.{screen, vertex, pixel, binned, released, found, highWater, rounded, Told};
 
 // Opens a pool: 0, or 1, 2, 3 in that order.
 #[no_mangle]
@@ -43,6 +43,16 @@ pub extern "C" fn flourscoop_read(pool: &[u32], tile: u32, place: u32, id: &mut 
 {
     let answer = calls::read(pool, Tile(tile), place);
     *id = answer.id;
+    answer.number
+}
+
+// The most entries that a tile's list had since the opening: 0, or 4, 9 in that order.
+#[no_mangle]
+pub extern "C" fn flourscoop_high_water(pool: &[u32], tile: u32, entries: &mut u32) -> u32
+    ensures { λ r. ⌜ HighWaterSays (now (pool .entry)) tile (highWater r (now (entries .exit))) ⌝ }
+{
+    let answer = calls::high_water(pool, Tile(tile));
+    *entries = answer.entries;
     answer.number
 }
 

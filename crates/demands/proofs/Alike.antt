@@ -91,7 +91,7 @@ module _ {n : ℕ} {p w : List ℕ} {s : State} (W : Wider edition n p w s) wher
       let e′ : a ≡ record { number = 0; blocks = ceil (length (listIn w t)) (edition .ids) } = rw (lists-same t h) e in
       (release edition (tilesOf w) w t, releaseState s t, ReleaseSays.done sound′ (omega (arith, tiles-same)) e′ refl, rw f (wider-release edition-fair W t h))
 
-  step-follows : (e : Entry) (q : List ℕ) → Step p e q → numberOf e ≢ 8 → Follows n (λ v. Step w e v) q
+  pub step-follows : (e : Entry) (q : List ℕ) → Step p e q → numberOf e ≢ 8 → Follows n (λ v. Step w e v) q
   step-follows (binned shape id a) q k ne = bin-follows k ne
   step-follows (binned-pixels shape id a) q k ne = bin-pixels-follows k ne
   step-follows (found tile place a) q k ne = unchanged _ (k .1) (read-follows (k .0), refl)

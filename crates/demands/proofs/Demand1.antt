@@ -17,12 +17,13 @@ use Rattle.lists.proofs.Releases.{release-releases}
 use Rattle.calls.specs.declared.Binned.{Binned}
 use Rattle.calls.specs.declared.Released.{Released}
 use Rattle.calls.specs.declared.Found.{Found}
+use Rattle.calls.specs.declared.HighWater.{HighWater}
 use Rattle.calls.specs.declared.Answered.{Answered}
 use Rattle.pool.specs.Opening.{OpenSays}
-use Rattle.calls.specs.Tables.{AuditSays, PlaceSays, BinSays, BinPixelsSays, ReadSays, ReleaseSays, refusedBin}
+use Rattle.calls.specs.Tables.{AuditSays, PlaceSays, BinSays, BinPixelsSays, ReadSays, HighWaterSays, ReleaseSays, refusedBin}
 use Rattle.calls.specs.Questions.{RefusedWith, TouchSays, BoxSays, CornerSays}
 use Rattle.demands.specs.History.{Entry, binned, binned-pixels, found, released, numberOf, Step}
-use Rattle.demands.specs.Demand1.{Among, refusals, RestZero, Outside, Demand1, Demand1Open, Demand1Audit, Demand1Question}
+use Rattle.demands.specs.Demand1.{Among, refusals, RestZero, Outside, Demand1, Demand1Open, Demand1Audit, Demand1HighWater, Demand1Question}
 use Rattle.demands.proofs.Accepted.{bin-appends, same-outside, kept-outside}
 
 -- ---- a refusal, and an accepted call
@@ -104,6 +105,14 @@ demand-1-open {p} {d} {blocks} {number} {q} (OpenSays.done s m l e f) = record {
 pub demand-1-audit : {p : List ℕ} {number : ℕ} → AuditSays p number → Demand1Audit number
 demand-1-audit (AuditSays.damaged n e) = inr (inl e)
 demand-1-audit (AuditSays.done S e) = inl e
+
+high-water-number : {a : HighWater} {n e : ℕ} → a ≡ record { number = n; entries = e } → a .number ≡ n
+high-water-number e = ap (λ (b : HighWater). b .number) e
+
+pub demand-1-high-water : {p : List ℕ} {t : ℕ} {a : HighWater} → HighWaterSays p t a → Demand1HighWater a
+demand-1-high-water (HighWaterSays.damaged n e) = record { number-is = inr (inl (high-water-number e)); refused = λ _. ap (λ (b : HighWater). b .entries) e }
+demand-1-high-water (HighWaterSays.no-tile S t e) = record { number-is = inr (inr (inl (high-water-number e))); refused = λ _. ap (λ (b : HighWater). b .entries) e }
+demand-1-high-water (HighWaterSays.done S t e) = let z = high-water-number e in record { number-is = inl z; refused = λ ne. absurd (ne z) }
 
 refused-among : {d : Screen} {t : ℕ} {shape : Shape} {n : ℕ} → RefusedWith d t shape n → Among n (1 ∷ 9 ∷ 7 ∷ [])
 refused-among (RefusedWith.bad-screen n e) = inl e

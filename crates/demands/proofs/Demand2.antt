@@ -63,6 +63,7 @@ module _ {p : List ℕ} {shape : Shape} {id : ℕ} {a : Binned} {q : List ℕ} w
       (record {
         touched = λ t h k. kept-list (A .kept) t ∙ A .gains t (touched-in T t h k);
         others = λ t h n. kept-list (A .kept) t ∙ A .others t h (untouched-in T t h n);
+        marks = λ t h. rw (kept-list (A .kept) t) (A .marks t h);
         tiles = (ts, T, ap (λ (b : Binned). b .tiles) e);
         blocks = omega (arith, ap (λ (b : Binned). b .blocks) e, A .taken);
       })
@@ -209,6 +210,7 @@ release-emptied {p} S t a h e =
     record {
       emptied = kept-list (E .kept) t ∙ E .emptied;
       others = λ u hu ne. kept-list (E .kept) u ∙ E .others u hu ne;
+      marks = E .marks;
       count = e;
       given = omega (arith, E .given, ap (λ (n : ℕ). ceil n (edition .ids)) entries);
       free = λ R b hb.

@@ -12,11 +12,11 @@ use Rattle.pool.specs.Sound.{Shows, Sound, screenOf, tilesOf, blocksOf}
 use Rattle.pool.specs.Lists.{listOf}
 use Rattle.pool.specs.Opening.{opening, openingState}
 use Rattle.pool.proofs.Words.{edition-fair}
-use Rattle.pool.proofs.Opening.{header-fits, open-sound, opening-opened, opening-screen, opening-tiles, opening-blocks, opening-shows, opening-lists-empty}
+use Rattle.pool.proofs.Opening.{header-fits, open-sound, opening-opened, opening-screen, opening-tiles, opening-blocks, opening-tile, opening-shows, opening-lists-empty}
 use Rattle.lists.specs.Wider.{widen, Wider}
-use Rattle.lists.proofs.Widening.{widen-opening, wider-tiles, wider-free, wider-poison}
+use Rattle.lists.proofs.Widening.{widen-opening, wider-tiles, wider-marks, wider-free, wider-poison}
 use Rattle.pool.specs.Opening.{OpenSays}
-use Rattle.calls.specs.Tables.{listIn}
+use Rattle.calls.specs.Tables.{listIn, markIn}
 use Rattle.demands.specs.History.{lessRoom}
 use Rattle.demands.specs.Demand3.{Demand3Holds, Demand3Runs}
 use Rattle.demands.proofs.Runs.{run-stays, runs-one-outcome}
@@ -25,26 +25,27 @@ use Rattle.demands.proofs.Alike.{lists-same, run-follows}
 
 -- ---- an accepted opening
 
-record AcceptedOpening (old : List ℕ) (d : Screen) (N : ℕ) (p : List ℕ) : Type 0 where
-  allowed : Allowed d
-  few : N ≤ 2048
-  long : room edition (tiles d) N ≤ length old
-  is : p ≡ opening edition d N old
+pub record AcceptedOpening (old : List ℕ) (d : Screen) (N : ℕ) (p : List ℕ) : Type 0 where
+  pub allowed : Allowed d
+  pub few : N ≤ 2048
+  pub long : room edition (tiles d) N ≤ length old
+  pub is : p ≡ opening edition d N old
 
-accepted-opening : {old : List ℕ} {d : Screen} {N : ℕ} {p : List ℕ} → OpenSays edition old d N 0 p → AcceptedOpening old d N p
+pub accepted-opening : {old : List ℕ} {d : Screen} {N : ℕ} {p : List ℕ} → OpenSays edition old d N 0 p → AcceptedOpening old d N p
 accepted-opening (OpenSays.bad-screen n e f) = absurd (omega arith)
 accepted-opening (OpenSays.too-many s m e f) = absurd (omega arith)
 accepted-opening (OpenSays.too-short s m l e f) = absurd (omega arith)
 accepted-opening (OpenSays.done s m l e f) = record { allowed = s; few = m; long = l; is = f }
 
--- a sound pool for that screen, with that many blocks and with empty lists
-record Fresh (d : Screen) (N : ℕ) (p : List ℕ) : Type 0 where
-  sound : Sound edition p
-  screen : screenOf p ≡ d
-  blocks : blocksOf p ≡ N
-  none : (t : ℕ) → t < tiles d → listIn p t ≡ []
+-- a sound pool for that screen, with that many blocks, with empty lists and with no marks
+pub record Fresh (d : Screen) (N : ℕ) (p : List ℕ) : Type 0 where
+  pub sound : Sound edition p
+  pub screen : screenOf p ≡ d
+  pub blocks : blocksOf p ≡ N
+  pub none : (t : ℕ) → t < tiles d → listIn p t ≡ []
+  pub unmarked : (t : ℕ) → t < tiles d → markIn p t ≡ 0
 
-fresh : {old : List ℕ} {d : Screen} {N : ℕ} {p : List ℕ} → AcceptedOpening old d N p → Fresh d N p
+pub fresh : {old : List ℕ} {d : Screen} {N : ℕ} {p : List ℕ} → AcceptedOpening old d N p → Fresh d N p
 fresh {old} {d} {N} {p} A =
     let fits = header-fits d N in
     subst (λ (x : List ℕ). Fresh d N x) (sym (A .is))
@@ -54,10 +55,11 @@ fresh {old} {d} {N} {p} A =
       blocks = opening-blocks edition d N old fits edition-fair;
       none = λ t ht. ap (λ (T : ℕ). listOf edition T (opening edition d N old) t) (opening-tiles edition d N old fits edition-fair)
           ∙ opening-lists-empty edition d N old fits edition-fair t ht;
+      unmarked = λ t ht. opening-tile edition d N old fits t 3 ht (edition-fair .tile>);
     })
 
 -- two openings say the same, the second with n blocks more
-openings-wider : {d : Screen} {N n : ℕ} {old old′ p w : List ℕ} → AcceptedOpening old d N p → AcceptedOpening old′ d (N + n) w → Wider edition n p w (openingState (tiles d) N)
+pub openings-wider : {d : Screen} {N n : ℕ} {old old′ p w : List ℕ} → AcceptedOpening old d N p → AcceptedOpening old′ d (N + n) w → Wider edition n p w (openingState (tiles d) N)
 openings-wider {d} {N} {n} {old} {old′} {p} {w} A B =
     let fits = header-fits d N in
     let fits′ = header-fits d (N + n) in
@@ -102,6 +104,7 @@ demand-3 d N n p₁ p₂ O h₁ q₁ R₁ h₂ q₂ same R₂ =
     record {
       answers = one .0;
       lists = λ t ht. lists-same W t (subst (λ (T : ℕ). t < T) (sym tiles-are) ht);
+      marks = λ t ht. wider-marks edition-fair W t (subst (λ (T : ℕ). t < T) (sym tiles-are) ht);
       history = lists-are-listed d p₁ (P .sound) (P .screen) (P .none) h₁ q₁ R₁;
       free = wider-free edition-fair W;
       poisoned = λ b lo hi k hk.

@@ -9,3 +9,6 @@ pub mod Room
 pub mod Listed
 pub mod Alike
 pub mod Demand3
+pub mod HighWater
+pub mod Sizing
+pub mod OldLayout

@@ -14,9 +14,10 @@ use Rattle.lists.specs.Appending.{need}
 use Rattle.calls.specs.declared.Binned.{Binned}
 use Rattle.calls.specs.declared.Released.{Released}
 use Rattle.calls.specs.declared.Found.{Found}
+use Rattle.calls.specs.declared.HighWater.{HighWater}
 use Rattle.calls.specs.declared.Answered.{Answered}
 use Rattle.pool.specs.Opening.{OpenSays}
-use Rattle.calls.specs.Tables.{AuditSays, PlaceSays, BinSays, BinPixelsSays, ReadSays, ReleaseSays}
+use Rattle.calls.specs.Tables.{AuditSays, PlaceSays, BinSays, BinPixelsSays, ReadSays, HighWaterSays, ReleaseSays}
 use Rattle.calls.specs.Questions.{RefusedWith, InOrder, TouchSays, BoxSays, CornerSays}
 use Rattle.walk.proofs.Touched.{touched-tiles-unique}
 
@@ -43,6 +44,17 @@ audit-one-outcome (AuditSays.damaged n e) (AuditSays.damaged n′ e′) = cc
 audit-one-outcome (AuditSays.damaged n e) (AuditSays.done s′ e′) = absurd (n s′)
 audit-one-outcome (AuditSays.done s e) (AuditSays.damaged n′ e′) = absurd (n′ s)
 audit-one-outcome (AuditSays.done s e) (AuditSays.done s′ e′) = cc
+
+pub high-water-one-outcome : {p : List ℕ} {t : ℕ} {a b : HighWater} → HighWaterSays p t a → HighWaterSays p t b → a ≡ b
+high-water-one-outcome (HighWaterSays.damaged n e) (HighWaterSays.damaged n′ e′) = cc
+high-water-one-outcome (HighWaterSays.damaged n e) (HighWaterSays.no-tile s′ h′ e′) = absurd (n s′)
+high-water-one-outcome (HighWaterSays.damaged n e) (HighWaterSays.done s′ h′ e′) = absurd (n s′)
+high-water-one-outcome (HighWaterSays.no-tile s h e) (HighWaterSays.damaged n′ e′) = absurd (n′ s)
+high-water-one-outcome (HighWaterSays.no-tile s h e) (HighWaterSays.no-tile s′ h′ e′) = cc
+high-water-one-outcome (HighWaterSays.no-tile s h e) (HighWaterSays.done s′ h′ e′) = absurd (omega arith)
+high-water-one-outcome (HighWaterSays.done s h e) (HighWaterSays.damaged n′ e′) = absurd (n′ s)
+high-water-one-outcome (HighWaterSays.done s h e) (HighWaterSays.no-tile s′ h′ e′) = absurd (omega arith)
+high-water-one-outcome (HighWaterSays.done s h e) (HighWaterSays.done s′ h′ e′) = cc
 
 -- ---- the bins
 

@@ -30,11 +30,12 @@ use Rattle.lists.proofs.Together.{Together, append-all-together, release-togeth
 use Rattle.calls.specs.declared.Binned.{Binned}
 use Rattle.calls.specs.declared.Released.{Released}
 use Rattle.calls.specs.declared.Found.{Found}
-use Rattle.calls.specs.Tables.{AuditSays, PlaceSays, BinSays, BinPixelsSays, ReadSays, ReleaseSays, listIn, freeIn}
+use Rattle.calls.specs.declared.HighWater.{HighWater}
+use Rattle.calls.specs.Tables.{AuditSays, PlaceSays, BinSays, BinPixelsSays, ReadSays, HighWaterSays, ReleaseSays, listIn, freeIn}
 use Rattle.calls.proofs.Placing.{touched-distinct}
 use Rattle.demands.specs.History.{Entry, binned, binned-pixels, found, released, Step, Run}
-use Rattle.demands.specs.Room.{roomOf, SameRoom, PastTheRoom, PastTheRoomAudit, PastTheRoomOpen}
-use Rattle.demands.proofs.OneOutcome.{open-one-outcome, audit-one-outcome}
+use Rattle.demands.specs.Room.{roomOf, SameRoom, PastTheRoom, PastTheRoomAudit, PastTheRoomHighWater, PastTheRoomOpen}
+use Rattle.demands.proofs.OneOutcome.{open-one-outcome, audit-one-outcome, high-water-one-outcome}
 use Rattle.demands.proofs.Accepted.{bin-appends}
 use Rattle.demands.proofs.Runs.{runs-one-outcome}
 
@@ -89,6 +90,12 @@ module _ {p w : List ℕ} (S : SameRoom p w) where
   audit-follows : {a : ℕ} → AuditSays p a → AuditSays w a
   audit-follows (AuditSays.damaged n e) = AuditSays.damaged (unsound n) e
   audit-follows (AuditSays.done P e) = AuditSays.done (sound P) e
+
+  high-water-follows : {t : ℕ} {a : HighWater} → HighWaterSays p t a → HighWaterSays w t a
+  high-water-follows (HighWaterSays.damaged n e) = HighWaterSays.damaged (unsound n) e
+  high-water-follows (HighWaterSays.no-tile P h e) = HighWaterSays.no-tile (sound P) (rw tiles-same h) e
+  high-water-follows {t} {a} (HighWaterSays.done P h e) =
+      HighWaterSays.done (sound P) (rw tiles-same h) (rw (tile-agrees (agree S) t 3 h (omega arith)) e)
 
   module _ (P : Sound edition p) where
     together : Together edition (tilesOf p) (blocksOf p) p w
@@ -190,6 +197,9 @@ past-the-room p₁ p₂ S h₁ h₂ q₁ q₂ c R₁ R₂ =
 
 pub past-the-room-audit : PastTheRoomAudit
 past-the-room-audit p₁ p₂ S a₁ a₂ A₁ A₂ = audit-one-outcome (audit-follows S A₁) A₂
+
+pub past-the-room-high-water : PastTheRoomHighWater
+past-the-room-high-water p₁ p₂ S t a₁ a₂ A₁ A₂ = high-water-one-outcome (high-water-follows S A₁) A₂
 
 pub past-the-room-open : PastTheRoomOpen
 past-the-room-open p₁ p₂ d N both a₁ a₂ q₁ q₂ O₁ O₂ =

@@ -28,7 +28,7 @@ run-stays p (e ∷ h) q S r =
 
 -- ---- one history only
 
-step-one-outcome : (p : List ℕ) (e f : Entry) (q r : List ℕ) → callOf e ≡ callOf f → Step p e q → Step p f r → (e ≡ f) × (q ≡ r)
+pub step-one-outcome : (p : List ℕ) (e f : Entry) (q r : List ℕ) → callOf e ≡ callOf f → Step p e q → Step p f r → (e ≡ f) × (q ≡ r)
 step-one-outcome p (binned shape id a) (binned shape′ id′ b) q r c s t =
     let es : shape ≡ shape′ = cc in
     let ei : id ≡ id′ = cc in

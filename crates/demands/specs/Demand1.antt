@@ -11,6 +11,7 @@ use Rattle.screen.specs.declared.Screen.{Screen}
 use Rattle.screen.specs.Screen.{tiles}
 use Rattle.pool.specs.Words.{edition, room}
 use Rattle.pool.specs.Sound.{tilesOf, blocksOf}
+use Rattle.calls.specs.declared.HighWater.{HighWater}
 use Rattle.calls.specs.declared.Answered.{Answered}
 use Rattle.demands.specs.History.{Entry, binned, binned-pixels, found, released, numberOf}
 
@@ -52,6 +53,11 @@ pub record Demand1Open (p : List ℕ) (d : Screen) (blocks number : ℕ) (q : Li
 -- of an audit, which only reads the words and answers a number
 abbrev pub Demand1Audit : (number : ℕ) → Type 0
 Demand1Audit number = (number ≡ 0) ⊎ Among number (4 ∷ [])
+
+-- of a question about a tile's mark, which only reads the words
+pub record Demand1HighWater (a : HighWater) : Type 0 where
+  pub number-is : (a .number ≡ 0) ⊎ Among (a .number) (4 ∷ 9 ∷ [])
+  pub refused : a .number ≢ 0 → a .entries ≡ 0
 
 -- of a question about touching, which is lent no words
 pub record Demand1Question (a : Answered) : Type 0 where

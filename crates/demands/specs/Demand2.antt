@@ -2,7 +2,7 @@
 use mathlib.Core.Path.{_≡_}
 use mathlib.Core.Logic.{_≢_, _⊎_, _↔_}
 use mathlib.Core.List.{List, [], _∷_, _++_}
-use Prim.Native.Nat.{ℕ, _+_, _≤_, _<_}
+use Prim.Native.Nat.{ℕ, _+_, _≤_, _<_, max}
 use lib.ListN.{length}
 use Rattle.numbers.specs.Ceil.{ceil}
 use Rattle.screen.specs.Rectangle.{rectangle}
@@ -19,7 +19,7 @@ use Rattle.pool.specs.Sound.{Sound, screenOf, tilesOf, blocksOf}
 use Rattle.lists.specs.Appending.{need}
 use Rattle.calls.specs.declared.Binned.{Binned}
 use Rattle.calls.specs.declared.Released.{Released}
-use Rattle.calls.specs.Tables.{listIn, freeIn}
+use Rattle.calls.specs.Tables.{listIn, markIn, freeIn}
 
 -- the words q are a sound pool of the same screen and with as many blocks as p
 pub record StaysSound (p q : List ℕ) : Type 0 where
@@ -47,6 +47,8 @@ HasRoom p shape id = (o : Binnable p shape id) × (need edition p (o .ts) ≤ fr
 pub record Listed (p : List ℕ) (shape : Shape) (id : ℕ) (a : Binned) (q : List ℕ) : Type 0 where
   pub touched : (t : ℕ) → t < tilesOf p → Touches shape (rectangle (screenOf p) t) → listIn q t ≡ listIn p t ++ (id ∷ [])
   pub others : (t : ℕ) → t < tilesOf p → (Touches shape (rectangle (screenOf p) t) → ⊥) → listIn q t ≡ listIn p t
+  -- each mark is what it was, or the length of the list where that is greater
+  pub marks : (t : ℕ) → t < tilesOf p → markIn q t ≡ max (markIn p t) (length (listIn q t))
   -- the counts are those of the touched tiles, and of the blocks that are free no more
   pub tiles : (ts : List ℕ) × TouchedTiles (screenOf p) shape ts × (a .tiles ≡ length ts)
   pub blocks : freeIn q + a .blocks ≡ freeIn p
@@ -73,10 +75,11 @@ pub record Demand2Pixels (p : List ℕ) (shape : PixelShape) (id : ℕ) (a : Bin
 
 -- ---- release
 
--- an accepted release: that one list is empty, and its blocks are returned, poisoned
+-- an accepted release: that one list is empty, no mark has changed, and its blocks are returned, poisoned
 pub record Emptied (p : List ℕ) (S : Sound edition p) (t : ℕ) (a : Released) (q : List ℕ) : Type 0 where
   pub emptied : listIn q t ≡ []
   pub others : (u : ℕ) → u < tilesOf p → u ≢ t → listIn q u ≡ listIn p u
+  pub marks : (u : ℕ) → u < tilesOf p → markIn q u ≡ markIn p u
   pub count : a .blocks ≡ ceil (length (listIn p t)) (edition .ids)
   pub given : freeIn q ≡ freeIn p + a .blocks
   pub free : (R : Sound edition q) (b : ℕ) → 0 < times b (tileOf (S .state) t .blocks) → 0 < times b (R .state .free)

@@ -14,7 +14,7 @@ use Rattle.snap.specs.declared.SnappedShape.{SnappedShape}
 use Rattle.snap.specs.Shapes.{shapeOf}
 use Rattle.pool.specs.Words.{edition, blockWord}
 use Rattle.pool.specs.Opening.{OpenSays}
-use Rattle.calls.specs.Tables.{listIn, freeIn}
+use Rattle.calls.specs.Tables.{listIn, markIn, freeIn}
 use Rattle.demands.specs.History.{Entry, binned, binned-pixels, found, released, Run, callsOf, lessRoom}
 
 -- what a call with its answer does to the lists: an accepted shape goes to the tiles that it touches, an accepted release empties one
@@ -60,8 +60,9 @@ pub record Openings (d : Screen) (N n : ℕ) (p₁ p₂ : List ℕ) : Type 0 whe
 pub record Demand3 (d : Screen) (N n : ℕ) (h₁ : List Entry) (q₁ : List ℕ) (h₂ : List Entry) (q₂ : List ℕ) : Type 0 where
   -- each shared call got the same answer
   pub answers : h₂ ≡ lessRoom h₁
-  -- all lists agree, and are what the history says
+  -- all lists and marks agree, and the lists are what the history says
   pub lists : (t : ℕ) → t < tiles d → listIn q₂ t ≡ listIn q₁ t
+  pub marks : (t : ℕ) → t < tiles d → markIn q₂ t ≡ markIn q₁ t
   pub history : (t : ℕ) → t < tiles d → ListedBy d t h₁ (listIn q₁ t)
   -- the second has more free blocks by exactly the original difference
   pub free : freeIn q₂ ≡ freeIn q₁ + n

@@ -4,3 +4,6 @@ pub mod Demand1
 pub mod Unit
 pub mod Demand2
 pub mod Demand3
+pub mod HighWater
+pub mod Sizing
+pub mod OldLayout

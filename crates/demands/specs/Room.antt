@@ -9,7 +9,8 @@ use Rattle.screen.specs.Screen.{tiles}
 use Rattle.pool.specs.Words.{edition, room}
 use Rattle.pool.specs.Sound.{tilesOf, blocksOf}
 use Rattle.pool.specs.Opening.{OpenSays}
-use Rattle.calls.specs.Tables.{AuditSays}
+use Rattle.calls.specs.declared.HighWater.{HighWater}
+use Rattle.calls.specs.Tables.{AuditSays, HighWaterSays}
 use Rattle.demands.specs.History.{Entry, Run, callsOf}
 
 -- the room that the header of p says
@@ -31,6 +32,11 @@ PastTheRoom =
 -- the audit
 abbrev pub PastTheRoomAudit : Type 0
 PastTheRoomAudit = (p₁ p₂ : List ℕ) → SameRoom p₁ p₂ → (a₁ a₂ : ℕ) → AuditSays p₁ a₁ → AuditSays p₂ a₂ → a₁ ≡ a₂
+
+-- the question for a mark
+abbrev pub PastTheRoomHighWater : Type 0
+PastTheRoomHighWater =
+    (p₁ p₂ : List ℕ) → SameRoom p₁ p₂ → (t : ℕ) (a₁ a₂ : HighWater) → HighWaterSays p₁ t a₁ → HighWaterSays p₂ t a₂ → a₁ ≡ a₂
 
 -- an opening, of slices that are both long enough for it or neither, whatever their words
 abbrev pub PastTheRoomOpen : Type 0

@@ -105,19 +105,19 @@ module _ (p : List ℕ) (S : Sound edition p) where
   block-within b hb = omega (arith, S .opened .long, mul-le-mul-left 32 hb)
 
   module _ (t : ℕ) (ht : t < tilesOf p) where
-    pub tile-within : 8 + 3 * t + 3 ≤ length p
+    pub tile-within : edition .header + edition .tile * t + edition .tile ≤ length p
     unfolding room start
     tile-within = omega (arith, S .opened .long, mul-le-mul-left 3 ht)
 
-    pub tile-entries : getD p (8 + 3 * t) 0 ≡ length (listOf edition (tilesOf p) p t)
+    pub tile-entries : getD p (edition .header + edition .tile * t) 0 ≡ length (listOf edition (tilesOf p) p t)
     unfolding tileWord
     tile-entries =
-        let z : 8 + 3 * t + 0 ≡ 8 + 3 * t = omega arith in
+        let z : edition .header + edition .tile * t + 0 ≡ edition .header + edition .tile * t = omega arith in
         (rw z at (S .shows .tile t ht .entries)) ∙ ap length (sym (listOf-tile edition-fair (S .shows .tile t ht)))
 
     pub follow-start : (copy : List ℕ)
         → Following (edition .ids) (edition .poison) (blockWord edition (tilesOf p) p) (blocksOf p) (listOf edition (tilesOf p) p t) copy copy
-        (getD p (8 + 3 * t + 1) 0) 0
+        (getD p (edition .header + edition .tile * t + 1) 0) 0
     unfolding tileWord
     follow-start copy =
         let k = S .shows .tile t ht in

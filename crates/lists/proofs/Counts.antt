@@ -1,5 +1,5 @@
 -- What an append to one tile or to several does to what a pool says: to the lists, to the free chain, and to the blocks that further appends need.
-use mathlib.Core.Path.{_≡_, refl, sym, ap, ap₂, _∙_}
+use mathlib.Core.Path.{_≡_, refl, sym, ap, ap₂, _∙_, subst}
 use mathlib.Core.Logic.{_≢_, ⊎-elim}
 use mathlib.Core.Bool.{Bool, true, false}
 use mathlib.Core.List.{List, [], _∷_, _++_}
@@ -14,7 +14,7 @@ use Rattle.pool.specs.State.{Chained, empty, State, tileOf, one, times}
 use Rattle.pool.specs.Sound.{Shows}
 use Rattle.pool.proofs.Times.{one-same, one-other, times-head, times-tail, times-differ}
 use Rattle.lists.specs.Appending.{pick, multiple, need, Distinct}
-use Rattle.lists.specs.Steps.{tail, inLast, inNew, appendState, appendAllState, needState}
+use Rattle.lists.specs.Steps.{tail, raised, inLast, inNew, appendState, appendAllState, needState}
 
 tail-length : (l : List ℕ) → 0 < length l → length (tail l) + 1 ≡ length l
 tail-length [] h = absurd (not-suc-le-zero h)
@@ -26,9 +26,14 @@ tail-times b (x ∷ l) = omega arith
 
 -- ---- one tile, whichever way it goes
 
-list-by : (c : Bool) (s : State) (t id : ℕ) → t < length (s .tiles) → tileOf (pick c (inNew s t id) (inLast s t id)) t .list ≡ tileOf s t .list ++ (id ∷ [])
-list-by true s t id h = ap (λ (x : Chained). x .list) (getD-set-same (s .tiles) t _ empty h)
-list-by false s t id h = ap (λ (x : Chained). x .list) (getD-set-same (s .tiles) t _ empty h)
+-- the tile x, with one id more, is y
+pub record Gains (x y : Chained) (id : ℕ) : Type 0 where
+  pub list : y .list ≡ x .list ++ (id ∷ [])
+  pub mark : y .mark ≡ raised x
+
+gains-by : (c : Bool) (s : State) (t id : ℕ) → t < length (s .tiles) → Gains (tileOf s t) (tileOf (pick c (inNew s t id) (inLast s t id)) t) id
+gains-by true s t id h = let e = getD-set-same (s .tiles) t _ empty h in record { list = ap (λ (x : Chained). x .list) e; mark = ap (λ (x : Chained). x .mark) e }
+gains-by false s t id h = let e = getD-set-same (s .tiles) t _ empty h in record { list = ap (λ (x : Chained). x .list) e; mark = ap (λ (x : Chained). x .mark) e }
 
 other-by : (c : Bool) (s : State) (t id u : ℕ) → u ≢ t → tileOf (pick c (inNew s t id) (inLast s t id)) u ≡ tileOf s u
 other-by true s t id u ne = getD-set-other (s .tiles) t u _ empty ne
@@ -47,8 +52,8 @@ times-by true s t id b = tail-times b (s .free)
 times-by false s t id b = omega arith
 
 module _ (ids : ℕ) (s : State) (t id : ℕ) where
-  pub append-list : t < length (s .tiles) → tileOf (appendState ids s t id) t .list ≡ tileOf s t .list ++ (id ∷ [])
-  append-list = list-by (multiple ids (length (tileOf s t .list))) s t id
+  pub append-gains : t < length (s .tiles) → Gains (tileOf s t) (tileOf (appendState ids s t id) t) id
+  append-gains = gains-by (multiple ids (length (tileOf s t .list))) s t id
 
   pub append-other : (u : ℕ) → u ≢ t → tileOf (appendState ids s t id) u ≡ tileOf s u
   append-other = other-by (multiple ids (length (tileOf s t .list))) s t id
@@ -94,19 +99,19 @@ module _ (ids : ℕ) where
       let ne : u ≢ t = (λ (e : u ≡ t). times-differ t u (t ∷ ts) (times-head t ts) z (sym e)) in
       append-all-other (appendState ids s t id) ts id u (omega arith) ∙ append-other ids s t id u ne
 
-  pub append-all-list : (s : State) (ts : List ℕ) (id u : ℕ) → Distinct (length (s .tiles)) ts → 0 < times u ts
-      → tileOf (appendAllState ids s ts id) u .list ≡ tileOf s u .list ++ (id ∷ [])
+  pub append-all-gains : (s : State) (ts : List ℕ) (id u : ℕ) → Distinct (length (s .tiles)) ts → 0 < times u ts
+      → Gains (tileOf s u) (tileOf (appendAllState ids s ts id) u) id
   unfolding appendAllState
-  append-all-list s [] id u D h = absurd (not-suc-le-zero h)
-  append-all-list s (t ∷ ts) id u D h =
+  append-all-gains s [] id u D h = absurd (not-suc-le-zero h)
+  append-all-gains s (t ∷ ts) id u D h =
       ⊎-elim
       (λ (e : t ≡ u).
       rw (sym e)
-      (ap (λ (x : Chained). x .list) (append-all-other (appendState ids s t id) ts id t (distinct-first D)) ∙ append-list ids s t id (D .below t (times-head t ts))))
+      (rw (append-all-other (appendState ids s t id) ts id t (distinct-first D)) (append-gains ids s t id (D .below t (times-head t ts)))))
       (λ (ne : t ≢ u).
       let ne′ : u ≢ t = (λ z. ne (sym z)) in
-      append-all-list (appendState ids s t id) ts id u (rw (append-tiles ids s t id) (distinct-rest D)) (omega (arith, one-other u t ne′))
-      ∙ ap (λ (x : Chained). x .list ++ (id ∷ [])) (append-other ids s t id u ne′))
+      subst (λ (x : Chained). Gains x (tileOf (appendAllState ids (appendState ids s t id) ts id) u) id) (append-other ids s t id u ne′)
+      (append-all-gains (appendState ids s t id) ts id u (rw (append-tiles ids s t id) (distinct-rest D)) (omega (arith, one-other u t ne′))))
       (eq-or-ne t u)
 
   pub append-all-frees-none : (s : State) (ts : List ℕ) (id b : ℕ) → times b (appendAllState ids s ts id .free) ≤ times b (s .free)

@@ -15,7 +15,7 @@ use Rattle.pool.proofs.Times.{one-same, one-other, times-head, times-tail, time
 use Rattle.pool.proofs.Chain.{frame}
 use Rattle.pool.proofs.Lists.{blocks≤entries}
 use Rattle.pool.proofs.State.{times≤, tile-block<}
-use Rattle.pool.proofs.Total.{blocks-total, blocksInTiles-at}
+use Rattle.pool.proofs.Total.{chain-and-free≤}
 use Rattle.lists.specs.Releasing.{giveBlock, giveChain, release}
 use Rattle.lists.specs.Reach.{Among, Givable}
 use Rattle.lists.proofs.Gives.{give-one}
@@ -52,7 +52,7 @@ giving-start {p} {T} {t} G =
     let k = R .tile t (G .tile) in
     let x = tileOf s t in
     let many : length (x .blocks) ≡ ceil (tileWord edition p t 0) (edition .ids) = k .many ∙ ap (λ (q : ℕ). ceil q (edition .ids)) (sym (k .entries)) in
-    let sum : length (s .free) + length (x .blocks) ≤ blocksOf p = omega (arith, blocks-total R, blocksInTiles-at (s .tiles) t) in
+    let sum : length (s .free) + length (x .blocks) ≤ blocksOf p = chain-and-free≤ R t in
     record {
       n = length (x .list);
       blocks = x .blocks;

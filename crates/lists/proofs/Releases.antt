@@ -1,15 +1,16 @@
 -- A release keeps a pool sound and does what it promises; that of an empty tile changes no word.
 use mathlib.Core.Path.{_≡_, refl, sym, ap, _∙_}
-use mathlib.Core.Logic.{_≢_}
+use mathlib.Core.Logic.{_≢_, ⊎-elim}
 use mathlib.Core.List.{List, [], _∷_}
-use Prim.Native.Nat.{ℕ, _+_, _*_, _≤_, _<_}
+use Prim.Native.Nat.{ℕ, _+_, _*_, _≤_, _<_, zero-le}
 use native.Mathlib.Nat.{not-suc-le-zero}
 use native.Mathlib.Omega.{arith}
 use lib.ListN.{length, set}
 use lib.Seq.{getD-set-same, getD-set-other, set-getD}
 use Rattle.numbers.specs.Ceil.{ceil}
+use Rattle.numbers.proofs.Ceil.{eq-or-ne}
 use Rattle.pool.specs.Words.{Layout, Fair, start, room, tileWord, blockWord, tileSet}
-use Rattle.pool.specs.State.{Chained, empty, State, tileOf, linkTo, lastLink, times}
+use Rattle.pool.specs.State.{Chained, emptied, empty, State, tileOf, linkTo, lastLink, times}
 use Rattle.pool.specs.Sound.{Shows, Sound, tilesOf}
 use Rattle.pool.specs.Lists.{listOf}
 use Rattle.pool.proofs.Words.{start≤room, tile-set, tile-set-other-tile, tile-set-other-word, length-tileSet, header-tileSet, block-tileSet}
@@ -38,12 +39,16 @@ module _ {L : Layout} {T N : ℕ} {p : List ℕ} {s : State} (A : Fair L) (R : S
   pub release-shows : Shows L T N (release L T p t) (releaseState s t) × Kept L T N p (release L T p t) s (releaseState s t) (t ∷ [])
   unfolding release
   release-shows =
+      let k = R .tile t ht in
       let x = tileOf s t in
       let G = giveChain L T (tileWord L p t 0) (tileWord L p t 1) p in
       let E = chain-given in
       let tile0 : 0 < L .tile = omega (arith, A .tile>) in
       let tile1 : 1 < L .tile = omega (arith, A .tile>) in
-      let tile2 : 2 < L .tile = A .tile> in
+      let tile2 : 2 < L .tile = omega (arith, A .tile>) in
+      let n30 : _≢_ {A = ℕ} 3 0 = omega arith in
+      let n31 : _≢_ {A = ℕ} 3 1 = omega arith in
+      let n32 : _≢_ {A = ℕ} 3 2 = omega arith in
       let h4 : 4 < L .header = omega (arith, A .header>) in
       let h5 : 5 < L .header = omega (arith, A .header>) in
       let n01 : _≢_ {A = ℕ} 0 1 = omega arith in
@@ -55,7 +60,7 @@ module _ {L : Layout} {T N : ℕ} {p : List ℕ} {s : State} (A : Fair L) (R : S
       = (λ u hu ne i hi. simp (tile-set-other-tile L) (E .tiles u hu i hi)) in
       let same : (b : ℕ) → times b (x .blocks) ≡ 0 → Same (L .ids) (blockWord L T p) (blockWord L T (release L T p t)) b
       = (λ b z j hj. simp (block-tileSet L T) (E .blocks b z j hj)) in (
-        shows-set R _ t empty (onto (x .blocks) (s .free)) ht
+        shows-set R _ t (emptied (x .mark)) (onto (x .blocks) (s .free)) ht
             (simp (header-tileSet L) (E .count))
             (simp (header-tileSet L) (E .first))
             (frame (L .ids) (L .poison) (blockWord L T G) _ (onto (x .blocks) (s .free)) [] (λ b hb j hj. simp (block-tileSet L T)) (E .poisoned))
@@ -66,6 +71,9 @@ module _ {L : Layout} {T N : ℕ} {p : List ℕ} {s : State} (A : Fair L) (R : S
               many = sym (ceil-none (L .ids) (A .ids>));
               in-range = λ i hi. absurd (not-suc-le-zero hi);
               held = tt;
+              mark = simp (tile-set-other-word L) (E .tiles t ht 3 (A .tile>) ∙ k .mark);
+              mark≥ = zero-le;
+              mark≤ = k .mark≤;
             })
             (λ u hu ne. tile-frame A (other u hu ne) (λ b hb. same b (apart R u t b (λ z. ne (sym z)) hb)) (R .tile u hu))
             (λ b. omega (arith, times-onto b (x .blocks) (s .free))),
@@ -91,11 +99,17 @@ release-releases {L} {p} A S t ht =
     let before : (u : ℕ) → u < tilesOf p → listOf L (tilesOf p) p u ≡ tileOf s u .list = listOf-shows A R in
     let after : (u : ℕ) → u < tilesOf p → listOf L (tilesOf p) (release L (tilesOf p) p t) u ≡ tileOf (releaseState s t) u .list = listOf-shows A (I .0) in
     let many : length (x .blocks) ≡ ceil (length (listOf L (tilesOf p) p t)) (L .ids) = k .many ∙ ap (λ (l : List ℕ). ceil (length l) (L .ids)) (sym (before t ht)) in
+    let same-mark : (u : ℕ) → tileOf (releaseState s t) u .mark ≡ tileOf s u .mark
+    = (λ u.
+    ⊎-elim (λ (e : u ≡ t). rw e (ap (λ (y : Chained). y .mark) (getD-set-same (s .tiles) t (emptied (x .mark)) empty ht′)))
+    (λ (ne : u ≢ t). ap (λ (y : Chained). y .mark) (getD-set-other (s .tiles) t u (emptied (x .mark)) empty ne))
+    (eq-or-ne u t)) in
     record {
       sound = sound-with A S (kept-keeps K) (releaseState s t) (I .0);
       says = refl;
-      emptied = after t ht ∙ ap (λ (y : Chained). y .list) (getD-set-same (s .tiles) t empty empty ht′);
-      others = λ u hu ne. after u hu ∙ ap (λ (y : Chained). y .list) (getD-set-other (s .tiles) t u empty empty ne) ∙ sym (before u hu);
+      emptied = after t ht ∙ ap (λ (y : Chained). y .list) (getD-set-same (s .tiles) t (emptied (x .mark)) empty ht′);
+      others = λ u hu ne. after u hu ∙ ap (λ (y : Chained). y .list) (getD-set-other (s .tiles) t u (emptied (x .mark)) empty ne) ∙ sym (before u hu);
+      marks = λ u hu. I .0 .tile u hu .mark ∙ same-mark u ∙ sym (R .tile u hu .mark);
       given = I .0 .count ∙ length-onto (x .blocks) (s .free) ∙ rw (many, R .count) (omega arith);
       poisoned = λ b hb. holds-nothing (L .ids) (L .poison) (blockWord L (tilesOf p) (release L (tilesOf p) p t)) (onto (x .blocks) (s .free)) b
           (omega (arith, times-onto b (x .blocks) (s .free))) (I .0 .poisoned);

@@ -1,10 +1,11 @@
 -- An append to several tiles, none of them twice, keeps a pool sound and does what it promises.
 use mathlib.Core.Path.{_≡_, refl, sym, ap, _∙_, subst}
-use mathlib.Core.Logic.{_≢_}
+use mathlib.Core.Logic.{_≢_, ⊎-elim}
 use mathlib.Core.List.{List, [], _∷_, _++_}
-use Prim.Native.Nat.{ℕ, _+_, _≤_, _<_}
+use Prim.Native.Nat.{ℕ, _+_, _≤_, _<_, max}
+use native.Mathlib.Nat.{eq-zero-or-pos}
 use native.Mathlib.Omega.{arith}
-use lib.ListN.{length}
+use lib.ListN.{length, length-append}
 use Rattle.pool.specs.Words.{Layout, Fair, room, headerWord}
 use Rattle.pool.specs.State.{Chained, State, tileOf, one, times}
 use Rattle.pool.specs.Sound.{Shows, Sound, tilesOf, blocksOf}
@@ -16,7 +17,7 @@ use Rattle.lists.specs.Appending.{multiple, need, append, appendAll, Dis
 use Rattle.lists.specs.Steps.{appendState, appendAllState, needState}
 use Rattle.lists.specs.Promises.{Kept, Appended}
 use Rattle.lists.proofs.Appends.{append-step}
-use Rattle.lists.proofs.Counts.{append-other, append-free, append-all-other, append-all-list, append-all-frees-none, distinct-one, distinct-first, distinct-rest, need-other, need-shows}
+use Rattle.lists.proofs.Counts.{append-other, append-free, append-all-other, append-all-gains, append-all-frees-none, distinct-one, distinct-first, distinct-rest, need-other, need-shows}
 
 -- the pool q, which keeps the fixed words of the sound pool p, is sound with the state that it shows
 abbrev pub sound-with : {L : Layout} {p q : List ℕ} → Fair L → Sound L p → Keeps L p q → (r : State) → Shows L (tilesOf p) (blocksOf p) q r → Sound L q
@@ -87,11 +88,19 @@ append-all-appends {L} {p} A S ts id D hid enough =
     let D′ : Distinct (length (s .tiles)) ts = rw (R .tiled) D in
     let before : (u : ℕ) → u < tilesOf p → listOf L (tilesOf p) p u ≡ tileOf s u .list = listOf-shows A R in
     let after : (u : ℕ) → u < tilesOf p → listOf L (tilesOf p) (appendAll L (tilesOf p) p ts id) u ≡ tileOf r u .list = listOf-shows A (I .0) in
+    let risen : (u : ℕ) → u < tilesOf p → tileOf r u .mark ≡ max (tileOf s u .mark) (length (tileOf r u .list))
+    = (λ u hu.
+    ⊎-elim (λ (z : times u ts ≡ 0). rw (append-all-other (L .ids) s ts id u z) (omega (arith, R .tile u hu .mark≥)))
+    (λ (h : 0 < times u ts).
+    let G = append-all-gains (L .ids) s ts id u D′ h in
+    omega (arith, G .mark, ap length (G .list), length-append (tileOf s u .list) (id ∷ [])))
+    (eq-zero-or-pos (times u ts))) in
     record {
       sound = sound-with A S (kept-keeps K) r (I .0);
       says = refl;
-      gains = λ t h. after t (D .below t h) ∙ append-all-list (L .ids) s ts id t D′ h ∙ sym (ap (λ (l : List ℕ). l ++ (id ∷ [])) (before t (D .below t h)));
+      gains = λ t h. after t (D .below t h) ∙ append-all-gains (L .ids) s ts id t D′ h .list ∙ sym (ap (λ (l : List ℕ). l ++ (id ∷ [])) (before t (D .below t h)));
       others = λ u hu z. after u hu ∙ ap (λ (x : Chained). x .list) (append-all-other (L .ids) s ts id u z) ∙ sym (before u hu);
+      marks = λ u hu. rw (I .0 .tile u hu .mark, R .tile u hu .mark, after u hu) (risen u hu);
       taken = omega (arith, I .2, I .0 .count, R .count);
       kept = K;
     }

@@ -18,7 +18,7 @@ use Rattle.pool.proofs.Times.{one-same, times-head, times-tail, times-differ}
 use Rattle.pool.proofs.Chain.{Same, frame, uncons}
 use Rattle.pool.proofs.State.{tile-once, tile-block<, free-block<}
 use Rattle.pool.proofs.Room.{Agree, header-agrees, tile-agrees, block-agrees}
-use Rattle.lists.specs.Appending.{pick, multiple, appendIn, takeHead, takeBlock, appendFirst, appendNext, append, appendAll, Distinct}
+use Rattle.lists.specs.Appending.{pick, multiple, counted, appendIn, takeHead, takeBlock, appendFirst, appendNext, append, appendAll, Distinct}
 use Rattle.lists.specs.Releasing.{fill, giveBlock, giveChain, release}
 use Rattle.lists.specs.Steps.{needState}
 use Rattle.lists.proofs.Appends.{append-step}
@@ -56,40 +56,44 @@ module _ {L : Layout} {T N : ℕ} {p q : List ℕ} (A : Fair L) (G : Together L 
   head : (k : ℕ) → k ≤ 7 → headerWord q k ≡ headerWord p k
   head k h = header-agrees (G .agree) k (omega (arith, A .header>))
 
-  module _ (t : ℕ) (ht : t < T) where
-    of-tile : (i : ℕ) → i ≤ 2 → tileWord L q t i ≡ tileWord L p t i
-    of-tile i h = tile-agrees (G .agree) t i ht (omega (arith, A .tile>))
+  of-tile : (t : ℕ) → t < T → (i : ℕ) → i ≤ 3 → tileWord L q t i ≡ tileWord L p t i
+  of-tile t ht i h = tile-agrees (G .agree) t i ht (omega (arith, A .tile>))
 
-    in-together : (id : ℕ) → Together L T N (appendIn L T p t id) (appendIn L T q t id)
-    unfolding appendIn tileSet blockSet
-    in-together id = rw (of-tile 0 (omega arith), of-tile 2 (omega arith)) (together-set (together-set G _ id) _ _)
+  counted-together : (t : ℕ) → t < T → (n : ℕ) → Together L T N (counted L p t n) (counted L q t n)
+  unfolding counted tileSet
+  counted-together t ht n = rw (of-tile t ht 3 (omega arith)) (together-set (together-set G _ _) _ n)
 
-    take-together : (b id : ℕ) → b < N → Together L T N (takeBlock L T p t b id) (takeBlock L T q t b id)
-    unfolding takeHead takeBlock headerSet tileSet blockSet
-    take-together b id hb =
-        rw (head 4 (omega arith), of-tile 0 (omega arith), block-agrees (G .agree) b (L .ids) hb (omega arith))
-        (together-set (together-set (together-set (together-set (together-set (together-set G _ _) _ _) _ _) _ _) _ _) _ _)
+module _ {L : Layout} {T N : ℕ} {p q : List ℕ} (A : Fair L) (G : Together L T N p q) (t : ℕ) (ht : t < T) where
+  in-together : (id : ℕ) → Together L T N (appendIn L T p t id) (appendIn L T q t id)
+  unfolding appendIn blockSet
+  in-together id = rw (of-tile A G t ht 0 (omega arith), of-tile A G t ht 2 (omega arith)) (counted-together A (together-set G _ id) t ht _)
 
-    new-together : (c : Bool) (id : ℕ) → headerWord p 5 - 1 < N
-        → Together L T N (pick c (appendFirst L T p t id) (appendNext L T p t id)) (pick c (appendFirst L T q t id) (appendNext L T q t id))
-    unfolding appendFirst appendNext tileSet blockSet
-    new-together c id hb =
-        let H = take-together (headerWord p 5 - 1) id hb in
-        rw (head 5 (omega arith), of-tile 2 (omega arith)) (together-pick c (λ e. together-set H _ _) (together-set H _ _))
+  take-together : (b id : ℕ) → b < N → Together L T N (takeBlock L T p t b id) (takeBlock L T q t b id)
+  unfolding takeHead takeBlock headerSet tileSet blockSet
+  take-together b id hb =
+      rw (head A G 4 (omega arith), of-tile A G t ht 0 (omega arith), block-agrees (G .agree) b (L .ids) hb (omega arith))
+      (counted-together A (together-set (together-set (together-set (together-set (together-set G _ _) _ _) _ _) _ _) _ _) t ht _)
 
-    -- the head of the free chain is read only where a block is taken
-    pub append-together : {s : State} → Shows L T N p s → (id : ℕ) → one (multiple (L .ids) (length (tileOf s t .list))) ≤ length (s .free)
-        → Together L T N (append L T p t id) (append L T q t id)
-    unfolding append
-    append-together {s} R id enough =
-        rw (of-tile 0 (omega arith))
-        (together-pick (multiple (L .ids) (tileWord L p t 0))
-        (λ e.
-        let some : 0 < length (s .free) = omega (arith, ap one (ap (multiple (L .ids)) (sym (R .tile t ht .entries)) ∙ e)) in
-        let u = uncons (s .free) some in
-        let in-free : 0 < times (u .0) (s .free) = omega (arith, ap (times (u .0)) (u .2), one-same (u .0)) in
-        new-together (eqb (tileWord L p t 0) 0) id (omega (arith, R .first, ap linkTo (u .2), free-block< R (u .0) in-free)))
-        (in-together id))
+  new-together : (c : Bool) (id : ℕ) → headerWord p 5 - 1 < N
+      → Together L T N (pick c (appendFirst L T p t id) (appendNext L T p t id)) (pick c (appendFirst L T q t id) (appendNext L T q t id))
+  unfolding appendFirst appendNext tileSet blockSet
+  new-together c id hb =
+      let H = take-together (headerWord p 5 - 1) id hb in
+      rw (head A G 5 (omega arith), of-tile A G t ht 2 (omega arith)) (together-pick c (λ e. together-set H _ _) (together-set H _ _))
+
+  -- the head of the free chain is read only where a block is taken
+  pub append-together : {s : State} → Shows L T N p s → (id : ℕ) → one (multiple (L .ids) (length (tileOf s t .list))) ≤ length (s .free)
+      → Together L T N (append L T p t id) (append L T q t id)
+  unfolding append
+  append-together {s} R id enough =
+      rw (of-tile A G t ht 0 (omega arith))
+      (together-pick (multiple (L .ids) (tileWord L p t 0))
+      (λ e.
+      let some : 0 < length (s .free) = omega (arith, ap one (ap (multiple (L .ids)) (sym (R .tile t ht .entries)) ∙ e)) in
+      let u = uncons (s .free) some in
+      let in-free : 0 < times (u .0) (s .free) = omega (arith, ap (times (u .0)) (u .2), one-same (u .0)) in
+      new-together (eqb (tileWord L p t 0) 0) id (omega (arith, R .first, ap linkTo (u .2), free-block< R (u .0) in-free)))
+      (in-together id))
 
 pub append-all-together : {L : Layout} {T N : ℕ} {p q : List ℕ} {s : State} → Fair L → (id : ℕ) → id < L .limit → (ts : List ℕ)
     → Together L T N p q → Shows L T N p s → Distinct T ts → needState (L .ids) s ts ≤ length (s .free)

@@ -107,6 +107,9 @@ module _ {L : Layout} {n : ℕ} {p w : List ℕ} {s : State} (A : Fair L) (W : W
   pub wider-entries : (t : ℕ) → t < tilesOf p → tileWord L w t 0 ≡ tileWord L p t 0
   wider-entries t ht = W .shows′ .tile t ht .entries ∙ sym (W .shows .tile t ht .entries)
 
+  pub wider-marks : (t : ℕ) → t < tilesOf p → tileWord L w t 3 ≡ tileWord L p t 3
+  wider-marks t ht = W .shows′ .tile t ht .mark ∙ sym (W .shows .tile t ht .mark)
+
   pub wider-need : (ts : List ℕ) → Distinct (tilesOf p) ts → need L w ts ≡ need L p ts
   wider-need ts D =
       need-shows (W .shows′) ts (D .below) ∙ widen-need (L .ids) (blocksOf p) n s ts ∙ sym (need-shows (W .shows) ts (D .below))

@@ -1,7 +1,7 @@
 -- What an append does to the words, and how many blocks it takes.
 use mathlib.Core.Bool.{Bool, true, false}
 use mathlib.Core.List.{List, [], _∷_}
-use Prim.Native.Nat.{ℕ, _+_, _-_, _%_, _≤_, _<_}
+use Prim.Native.Nat.{ℕ, _+_, _-_, _%_, _≤_, _<_, max}
 use lib.Dec.{eqb}
 use Rattle.pool.specs.Words.{Layout, headerWord, tileWord, blockWord, headerSet, tileSet, blockSet}
 use Rattle.pool.specs.State.{one, times}
@@ -19,10 +19,14 @@ unfoldable pub need : Layout → List ℕ → (ts : List ℕ) → ℕ
 need L p [] = 0
 need L p (t ∷ ts) = one (multiple (L .ids) (tileWord L p t 0)) + need L p ts
 
+-- tile t has q entries, and its mark is at least that
+unfoldable pub counted : Layout → List ℕ → (t q : ℕ) → List ℕ
+counted L p t q = tileSet L (tileSet L p t 3 (max (tileWord L p t 3) q)) t 0 q
+
 -- the id goes into the last block of tile t, which has room
 unfoldable pub appendIn : Layout → (T : ℕ) → List ℕ → (t id : ℕ) → List ℕ
 appendIn L T p t id =
-    tileSet L (blockSet L T p (tileWord L p t 2 - 1) (tileWord L p t 0 % L .ids) id) t 0 (tileWord L p t 0 + 1)
+    counted L (blockSet L T p (tileWord L p t 2 - 1) (tileWord L p t 0 % L .ids) id) t (tileWord L p t 0 + 1)
 
 -- block b, the head of the free chain, leaves it
 unfoldable pub takeHead : Layout → (T : ℕ) → List ℕ → (b : ℕ) → List ℕ
@@ -30,7 +34,7 @@ takeHead L T p b = blockSet L T (headerSet (headerSet p 5 (blockWord L T p b (L 
 
 -- it is taken for tile t, and the id stands in it
 unfoldable pub takeBlock : Layout → (T : ℕ) → List ℕ → (t b id : ℕ) → List ℕ
-takeBlock L T p t b id = tileSet L (tileSet L (blockSet L T (takeHead L T p b) b 0 id) t 2 (b + 1)) t 0 (tileWord L p t 0 + 1)
+takeBlock L T p t b id = counted L (tileSet L (blockSet L T (takeHead L T p b) b 0 id) t 2 (b + 1)) t (tileWord L p t 0 + 1)
 
 -- it is the tile's first block
 unfoldable pub appendFirst : Layout → (T : ℕ) → List ℕ → (t id : ℕ) → List ℕ

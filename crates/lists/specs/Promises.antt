@@ -2,7 +2,7 @@
 use mathlib.Core.Path.{_≡_}
 use mathlib.Core.Logic.{_≢_}
 use mathlib.Core.List.{List, [], _∷_, _++_}
-use Prim.Native.Nat.{ℕ, _+_, _≤_, _<_}
+use Prim.Native.Nat.{ℕ, _+_, _≤_, _<_, max}
 use lib.ListN.{length, getD}
 use Rattle.numbers.specs.Ceil.{ceil}
 use Rattle.pool.specs.Words.{Layout, room, headerWord, tileWord, blockWord}
@@ -30,6 +30,8 @@ pub record Appended (L : Layout) (p : List ℕ) (S : Sound L p) (q ts : List ℕ
   pub says : sound .state ≡ appendAllState (L .ids) (S .state) ts id
   pub gains : (t : ℕ) → 0 < times t ts → listOf L (tilesOf p) q t ≡ listOf L (tilesOf p) p t ++ (id ∷ [])
   pub others : (u : ℕ) → u < tilesOf p → times u ts ≡ 0 → listOf L (tilesOf p) q u ≡ listOf L (tilesOf p) p u
+  -- each mark is what it was, or the length of the list where that is greater
+  pub marks : (u : ℕ) → u < tilesOf p → tileWord L q u 3 ≡ max (tileWord L p u 3) (length (listOf L (tilesOf p) q u))
   pub taken : headerWord q 4 + need L p ts ≡ headerWord p 4
   pub kept : Kept L (tilesOf p) (blocksOf p) p q (S .state) (sound .state) ts
 
@@ -40,6 +42,7 @@ pub record Released (L : Layout) (p : List ℕ) (S : Sound L p) (q : List ℕ) (
   pub says : sound .state ≡ releaseState (S .state) t
   pub emptied : listOf L (tilesOf p) q t ≡ []
   pub others : (u : ℕ) → u < tilesOf p → u ≢ t → listOf L (tilesOf p) q u ≡ listOf L (tilesOf p) p u
+  pub marks : (u : ℕ) → u < tilesOf p → tileWord L q u 3 ≡ tileWord L p u 3
   pub given : headerWord q 4 ≡ headerWord p 4 + ceil (length (listOf L (tilesOf p) p t)) (L .ids)
   pub poisoned : (b : ℕ) → 0 < times b (tileOf (S .state) t .blocks) → (k : ℕ) → k < L .ids → blockWord L (tilesOf p) q b k ≡ L .poison
   pub kept : Kept L (tilesOf p) (blocksOf p) p q (S .state) (sound .state) (t ∷ [])

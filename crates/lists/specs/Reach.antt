@@ -35,14 +35,14 @@ pub record Appendable (p : List ℕ) (T : ℕ) (ts : List ℕ) (id : ℕ) : Type
 
 -- a tile whose last block has room
 pub record Roomy (p : List ℕ) (T t : ℕ) : Type 0 where
-  pub tile : TileIn p t 2
+  pub tile : TileIn p t 3
   pub last : 0 < tileWord edition p t 2
   pub block : BlockIn T p (tileWord edition p t 2 - 1) (edition .ids)
   pub fits : tileWord edition p t 0 + 1 < 2 ^ 32
 
 -- a block that is to be taken for a tile
 pub record Takeable (p : List ℕ) (T t b : ℕ) : Type 0 where
-  pub tile : TileIn p t 2
+  pub tile : TileIn p t 3
   pub block : BlockIn T p b (edition .ids)
   pub free : 0 < headerWord p 4
   pub number : b + 1 < 2 ^ 32

@@ -19,7 +19,7 @@ giveChain L T zero link p = p
 giveChain L T (suc n) zero p = p
 giveChain L T (suc n) (suc b) p = giveChain L T n (blockWord L T p b (L .ids)) (giveBlock L T p b)
 
--- tile t's blocks are given back, and its words are those of an empty tile
+-- tile t's blocks are given back, and its words are those of an empty tile; its mark stays
 unfoldable pub release : Layout → (T : ℕ) → List ℕ → (t : ℕ) → List ℕ
 release L T p t =
     tileSet L (tileSet L (tileSet L (giveChain L T (tileWord L p t 0) (tileWord L p t 1) p) t 0 0) t 1 0) t 2 0

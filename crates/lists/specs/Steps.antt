@@ -1,8 +1,8 @@
 -- What append and release mean for what a pool says.
 use mathlib.Core.List.{List, [], _∷_, _++_}
-use Prim.Native.Nat.{ℕ, _+_}
+use Prim.Native.Nat.{ℕ, suc, _+_, max}
 use lib.ListN.{length, set}
-use Rattle.pool.specs.State.{Chained, empty, State, tileOf, one}
+use Rattle.pool.specs.State.{Chained, emptied, State, tileOf, one}
 use Rattle.lists.specs.Appending.{pick, multiple}
 
 abbrev pub headOr : (d : ℕ) → List ℕ → ℕ
@@ -13,13 +13,17 @@ abbrev pub tail : List ℕ → List ℕ
 tail [] = []
 tail (x ∷ xs) = xs
 
+-- the mark of a tile that gains an id
+abbrev pub raised : Chained → ℕ
+raised x = max (x .mark) (suc (length (x .list)))
+
 -- one id more
 abbrev pub withId : Chained → (id : ℕ) → Chained
-withId x id = record { blocks = x .blocks; list = x .list ++ (id ∷ []) }
+withId x id = record { blocks = x .blocks; list = x .list ++ (id ∷ []); mark = raised x }
 
 -- one id more, and one block more
 abbrev pub withBlock : Chained → (b id : ℕ) → Chained
-withBlock x b id = record { blocks = x .blocks ++ (b ∷ []); list = x .list ++ (id ∷ []) }
+withBlock x b id = record { blocks = x .blocks ++ (b ∷ []); list = x .list ++ (id ∷ []); mark = raised x }
 
 abbrev pub inLast : State → (t id : ℕ) → State
 inLast s t id = record { free = s .free; tiles = set (s .tiles) t (withId (tileOf s t) id) }
@@ -44,6 +48,6 @@ abbrev pub onto : (bs free : List ℕ) → List ℕ
 onto [] free = free
 onto (b ∷ bs) free = onto bs (b ∷ free)
 
--- tile t is empty, and its blocks are free
+-- tile t is empty and keeps its mark, and its blocks are free
 abbrev pub releaseState : State → (t : ℕ) → State
-releaseState s t = record { free = onto (tileOf s t .blocks) (s .free); tiles = set (s .tiles) t empty }
+releaseState s t = record { free = onto (tileOf s t .blocks) (s .free); tiles = set (s .tiles) t (emptied (tileOf s t .mark)) }

@@ -2,13 +2,13 @@
 // Each contract says the words that are left, whole; what they mean for the lists is in specs/Promises.
 ghost use mathlib.Core.Path.{_≡_};
 ghost use mathlib.Core.List.{[], _∷_};
-ghost use Prim.Native.Nat.{_+_, _*_, _^_, _≤_, _<_, suc};
+ghost use Prim.Native.Nat.{_+_, _*_, _^_, _≤_, _<_, suc, max};
 ghost use lib.ListN.{length, take, getD};
 ghost use Rattle.numbers.specs.Ceil.{ceil};
 ghost use Rattle.pool.specs.Words.{edition, start, headerWord, tileWord, blockWord};
 ghost use Rattle.pool.specs.Sound.{Sound};
 ghost use Rattle.pool.specs.Lists.{listOf};
-ghost use Rattle.lists.specs.Appending.{need, append, appendIn, takeHead, takeBlock, appendAll};
+ghost use Rattle.lists.specs.Appending.{need, append, counted, appendIn, takeHead, takeBlock, appendAll};
 ghost use Rattle.lists.specs.Releasing.{fill, giveBlock, release};
 ghost use Rattle.lists.specs.Reach.{TileIn, BlockIn, Among, AllAmong, Appendable, Roomy, Takeable, Givable};
 use numbers::wide;
@@ -25,12 +25,14 @@ const FREE: usize = 4;
 
 const FIRST_FREE: usize = 5;
 
-// The words of a tile: entries, first block + 1, last block + 1.
+// The words of a tile: entries, first block + 1, last block + 1, mark.
 const ENTRIES: usize = 0;
 
 const FIRST: usize = 1;
 
 const LAST: usize = 2;
+
+const MARK: usize = 3;
 
 // The link of a block comes after its ids.
 const LINK: usize = BLOCK_IDS;
@@ -84,6 +86,14 @@ pub fn entries(pool: &[u32], tiles: usize, tile: Tile) -> u32
     tile_word(pool, tile, ENTRIES)
 }
 
+// The most entries that a tile's list had since the opening.
+pub fn mark(pool: &[u32], tiles: usize, tile: Tile) -> u32
+    requires { ⌜ Among (now pool) tiles (tile .0) ⌝ }
+    ensures { λ r. ⌜ r ≡ tileWord edition (now (pool .entry)) (tile .0) 3 ⌝ }
+{
+    tile_word(pool, tile, MARK)
+}
+
 // How many blocks an id more in each of the first `count` named tiles takes.
 pub fn need(pool: &[u32], tiles: usize, named: &[u32], count: usize) -> usize
     requires { ⌜ (count ≤ length (now named)) × AllAmong (now pool) tiles (take count (now named)) ⌝ }
@@ -101,6 +111,23 @@ pub fn need(pool: &[u32], tiles: usize, named: &[u32], count: usize) -> usize
     blocks
 }
 
+// The greater of two words.
+fn greater(a: u32, b: u32) -> u32
+    ensures { λ r. ⌜ r ≡ max a b ⌝ }
+{
+    if a < b { b } else { a }
+}
+
+// A tile has so many entries, and its mark is at least that.
+fn set_entries(pool: &mut [u32], tile: Tile, entries: u32)
+    requires { ⌜ TileIn (now pool) (tile .0) 3 ⌝ }
+    ensures { λ r. ⌜ now (pool .exit) ≡ counted edition (now (pool .entry)) (tile .0) entries ⌝ }
+{
+    let mark = tile_word(pool, tile, MARK);
+    pool[tile_index(tile, MARK)] = greater(mark, entries);
+    pool[tile_index(tile, ENTRIES)] = entries;
+}
+
 // One id more in the last block of a tile, which has room.
 fn put_in_last(pool: &mut [u32], tiles: usize, tile: Tile, id: u32)
     requires { ⌜ Roomy (now pool) tiles (tile .0) ⌝ }
@@ -109,7 +136,7 @@ fn put_in_last(pool: &mut [u32], tiles: usize, tile: Tile, id: u32)
     let entries = tile_word(pool, tile, ENTRIES);
     let last = tile_word(pool, tile, LAST);
     pool[block_index(tiles, Block(last - 1), wide(entries) % BLOCK_IDS)] = id;
-    pool[tile_index(tile, ENTRIES)] = entries + 1;
+    set_entries(pool, tile, entries + 1);
 }
 
 // A block, the head of the free chain, leaves it.
@@ -133,7 +160,7 @@ fn take_block(pool: &mut [u32], tiles: usize, tile: Tile, block: Block, id: u32)
     take_head(pool, tiles, block);
     pool[block_index(tiles, block, 0)] = id;
     pool[tile_index(tile, LAST)] = block.0 + 1;
-    pool[tile_index(tile, ENTRIES)] = entries + 1;
+    set_entries(pool, tile, entries + 1);
 }
 
 // One id more at the end of a tile's list, where there is a free block if it takes one.
@@ -194,7 +221,7 @@ fn give_block(pool: &mut [u32], tiles: usize, block: Block)
     pool[FREE] = free + 1;
 }
 
-// A tile's blocks go back to the free chain, in the order of its chain; the tile is empty. Answers how many blocks these were.
+// A tile's blocks go back to the free chain, in the order of its chain; the tile is empty and keeps its mark. Answers how many blocks these were.
 pub fn release(pool: &mut [u32], tiles: usize, tile: Tile) -> u32
     requires { ⌜ Among (now pool) tiles (tile .0) ⌝ }
     ensures words { λ r. ⌜ now (pool .exit) ≡ release edition tiles (now (pool .entry)) (tile .0) ⌝ }

@@ -72,7 +72,7 @@ fn run(name: &[u8], width: u32, shape: Shape) {
         height: 32,
         s: 4,
     };
-    let mut space = [0u32; 288];
+    let mut space = [0u32; 296];
     let pool: &mut [u32] = &mut space;
     let opened = calls::open(pool, screen, 8);
     let binned = calls::bin(pool, shape, 7);
@@ -160,6 +160,21 @@ fn write_same(pool: &[u32], other: &[u32], name: &[u8]) {
     write(b"\n");
 }
 
+// Each word of a pool that is not as in another, with its place.
+fn write_changed(pool: &[u32], other: &[u32]) {
+    let mut i = 0;
+    while i < pool.len() {
+        if word(pool, i) != word(other, i) {
+            write(b"word ");
+            io::print_decimal(STDOUT_FILENO, i as u64);
+            write(b" not as opened: ");
+            write_number(word(pool, i));
+            write(b"\n");
+        }
+        i += 1;
+    }
+}
+
 // The pool case: two blocks, a bin that takes one, a bin that needs three, and a release.
 fn pool_case() {
     let screen = Screen {
@@ -167,9 +182,9 @@ fn pool_case() {
         height: 32,
         s: 4,
     };
-    let mut first = [0u32; 96];
-    let mut second = [0u32; 96];
-    let mut third = [0u32; 96];
+    let mut first = [0u32; 104];
+    let mut second = [0u32; 104];
+    let mut third = [0u32; 104];
     let opened: &mut [u32] = &mut first;
     let before: &mut [u32] = &mut second;
     let pool: &mut [u32] = &mut third;
@@ -199,7 +214,13 @@ fn pool_case() {
     write(b", blocks ");
     write_number(released.blocks);
     write(b"\n");
-    write_same(pool, opened, b"opened");
+    let mark = calls::high_water(pool, Tile(0));
+    write(b"mark of tile 0: ");
+    write_number(mark.number);
+    write(b", entries ");
+    write_number(mark.entries);
+    write(b"\n");
+    write_changed(pool, opened);
 }
 
 fn main() {

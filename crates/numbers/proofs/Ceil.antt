@@ -37,3 +37,13 @@ module _ (q m : ℕ) (0<m : 0 < m) where
   -- nothing else does both
   pub ceil-is : (n : ℕ) → q ≤ m * n → m * n < q + m → n ≡ ceil q m
   ceil-is n lo hi = let e = ceil-enough in let l = ceil-least in same-mul m n (ceil q m) (m - 1) (omega arith) (omega arith) (omega arith)
+
+-- more to cover takes no fewer parts
+pub ceil≤ : (m : ℕ) → 0 < m → {a b : ℕ} → a ≤ b → ceil a m ≤ ceil b m
+ceil≤ m 0<m {a} {b} h =
+    ⊎-elim
+    (λ (lt : ceil b m < ceil a m).
+    let w : m * suc (ceil b m) ≤ m * ceil a m = mul-le-mul-left m lt in
+    absurd (omega (arith, ceil-enough b m 0<m, ceil-least a m 0<m)))
+    (λ (ge : ceil a m ≤ ceil b m). ge)
+    (lt-or-ge (ceil b m) (ceil a m))

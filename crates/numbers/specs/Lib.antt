@@ -2,3 +2,4 @@ pub mod Says
 pub mod Diff
 pub mod Is
 pub mod Ceil
+pub mod Sum

@@ -63,7 +63,7 @@ module _ (ids poison : ℕ) (g : ℕ → ℕ → ℕ) where
 
 -- ---- the number of blocks of a tile, as orders of products
 
-module _ {L : Layout} {T : ℕ} {p : List ℕ} {t : ℕ} {x : Chained} (A : Fair L) (k : TileShows L T p t x) where
+module _ {L : Layout} {T N : ℕ} {p : List ℕ} {t : ℕ} {x : Chained} (A : Fair L) (k : TileShows L T N p t x) where
   pub blocks-enough : length (x .list) ≤ L .ids * length (x .blocks)
   blocks-enough = rw (k .many) (ceil-enough (length (x .list)) (L .ids) (A .ids>))
 

@@ -181,10 +181,13 @@ module _ (L : Layout) where
             (record {
               entries = opening-tile t 0 ht (omega (arith, A .tile>));
               first = opening-tile t 1 ht (omega (arith, A .tile>));
-              last = opening-tile t 2 ht (A .tile>);
+              last = opening-tile t 2 ht (omega (arith, A .tile>));
               many = sym (ceil-none (L .ids) (A .ids>));
               in-range = λ i hi. absurd (not-suc-le-zero hi);
               held = tt;
+              mark = opening-tile t 3 ht (A .tile>);
+              mark≥ = zero-le;
+              mark≤ = zero-le;
             });
         once = λ b hb. omega (arith, times-rising b 0 N zero-le (omega arith), timesInTiles-empty b (tiles d));
         none = λ b hb. omega (arith, times-rising-above b 0 N (omega arith), timesInTiles-empty b (tiles d));

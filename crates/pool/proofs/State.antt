@@ -82,21 +82,24 @@ in-range-snoc limit list id h hid i hi =
     (eq-or-ne i (length list))
 
 -- a tile whose words and whose blocks' words stay
-pub tile-frame : {L : Layout} {T : ℕ} {p q : List ℕ} {u : ℕ} {y : Chained} → Fair L → ((i : ℕ) → i < L .tile → tileWord L q u i ≡ tileWord L p u i)
-    → ((b : ℕ) → 0 < times b (y .blocks) → Same (L .ids) (blockWord L T p) (blockWord L T q) b) → TileShows L T p u y → TileShows L T q u y
-tile-frame {L} {T} {p} {q} {u} {y} A w s k = record {
+pub tile-frame : {L : Layout} {T N : ℕ} {p q : List ℕ} {u : ℕ} {y : Chained} → Fair L → ((i : ℕ) → i < L .tile → tileWord L q u i ≡ tileWord L p u i)
+    → ((b : ℕ) → 0 < times b (y .blocks) → Same (L .ids) (blockWord L T p) (blockWord L T q) b) → TileShows L T N p u y → TileShows L T N q u y
+tile-frame {L} {T} {N} {p} {q} {u} {y} A w s k = record {
   entries = w 0 (omega (arith, A .tile>)) ∙ k .entries;
   first = w 1 (omega (arith, A .tile>)) ∙ k .first;
-  last = w 2 (A .tile>) ∙ k .last;
+  last = w 2 (omega (arith, A .tile>)) ∙ k .last;
   many = k .many;
   in-range = k .in-range;
   held = frame (L .ids) (L .poison) (blockWord L T p) (blockWord L T q) (y .blocks) (y .list) s (k .held);
+  mark = w 3 (A .tile>) ∙ k .mark;
+  mark≥ = k .mark≥;
+  mark≤ = k .mark≤;
 }
 
 -- one tile and the free chain say something else, and blocks only moved between the two
 pub shows-set : {L : Layout} {T N : ℕ} {p : List ℕ} {s : State} (R : Shows L T N p s) (q : List ℕ) (t : ℕ) (x : Chained) (free : List ℕ) → t < T
-    → headerWord q 4 ≡ length free → headerWord q 5 ≡ linkTo free → Holds (L .ids) (L .poison) (blockWord L T q) free [] → TileShows L T q t x
-    → ((u : ℕ) → u < T → u ≢ t → TileShows L T q u (tileOf s u))
+    → headerWord q 4 ≡ length free → headerWord q 5 ≡ linkTo free → Holds (L .ids) (L .poison) (blockWord L T q) free [] → TileShows L T N q t x
+    → ((u : ℕ) → u < T → u ≢ t → TileShows L T N q u (tileOf s u))
     → ((b : ℕ) → times b free + times b (x .blocks) ≡ times b (s .free) + times b (tileOf s t .blocks))
     → Shows L T N q (record { free = free; tiles = set (s .tiles) t x })
 shows-set {L} {T} {N} {p} {s} R q t x free ht h4 h5 poisoned shown others moved =
@@ -106,7 +109,7 @@ shows-set {L} {T} {N} {p} {s} R q t x free ht h4 h5 poisoned shown others moved 
       first = h5;
       poisoned = poisoned;
       tiled = length-set (s .tiles) t x ∙ R .tiled;
-      tile = λ u hu. tiles-set (TileShows L T q) (s .tiles) t x ht′ shown (λ v hv. others v (omega (arith, R .tiled))) u (omega (arith, R .tiled));
+      tile = λ u hu. tiles-set (TileShows L T N q) (s .tiles) t x ht′ shown (λ v hv. others v (omega (arith, R .tiled))) u (omega (arith, R .tiled));
       once = λ b hb. omega (arith, timesInTiles-set b (s .tiles) t x ht′, moved b, R .once b hb);
       none = λ b hb. omega (arith, timesInTiles-set b (s .tiles) t x ht′, moved b, R .none b hb);
     }

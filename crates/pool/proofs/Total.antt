@@ -7,26 +7,15 @@ use native.Mathlib.Nat.{not-suc-le-zero, mul-le-mul-left}
 use native.Mathlib.Omega.{arith}
 use lib.Dec.{eqb}
 use lib.ListN.{length, getD}
-use Rattle.numbers.proofs.Ceil.{eq-or-ne}
+use Rattle.numbers.specs.Ceil.{ceil}
+use Rattle.numbers.specs.Sum.{sumTo}
+use Rattle.numbers.proofs.Ceil.{eq-or-ne, ceil-enough}
+use Rattle.numbers.proofs.Sum.{sumTo-add, sumTo-all, sumTo-first}
 use Rattle.pool.specs.Words.{Layout, Fair, tileWord, headerWord}
 use Rattle.pool.specs.State.{Chained, empty, State, tileOf, one, times, timesInTiles, timesInAll}
 use Rattle.pool.specs.Sound.{Shows}
 use Rattle.pool.proofs.Times.{one-same, one-other, times-head, times-tail}
-use Rattle.pool.proofs.Lists.{blocks-enough}
 use Rattle.pool.proofs.State.{chained<}
-
--- f 0 + f 1 + .. : n summands
-abbrev pub sumTo : ℕ → (ℕ → ℕ) → ℕ
-sumTo zero f = 0
-sumTo (suc n) f = sumTo n f + f n
-
-pub sumTo-add : (n : ℕ) (f g : ℕ → ℕ) → sumTo n (λ b. f b + g b) ≡ sumTo n f + sumTo n g
-sumTo-add zero f g = refl
-sumTo-add (suc n) f g = omega (arith, sumTo-add n f g)
-
-pub sumTo-all : (n k : ℕ) (f : ℕ → ℕ) → ((b : ℕ) → b < n → f b ≡ k) → sumTo n f ≡ n * k
-sumTo-all zero k f h = omega arith
-sumTo-all (suc n) k f h = omega (arith, sumTo-all n k f (λ b hb. h b (omega arith)), h n (omega arith))
 
 pub sumTo-one : (n c : ℕ) → c < n → sumTo n (λ b. one (eqb b c)) ≡ 1
 sumTo-one zero c h = absurd (not-suc-le-zero h)
@@ -55,10 +44,21 @@ sum-timesInTiles n (x ∷ l) h =
     sumTo-add n (λ b. times b (x .blocks)) (λ b. timesInTiles b l)
     ∙ omega (arith, sum-times n (x .blocks) (λ b hb. h b (omega arith)), sum-timesInTiles n l (λ b hb. h b (omega arith)))
 
+pub blocksInTiles-sum : (l : List Chained) → blocksInTiles l ≡ sumTo (length l) (λ t. length (getD l t empty .blocks))
+blocksInTiles-sum [] = refl
+blocksInTiles-sum (x ∷ l) = omega (arith, sumTo-first (length l) (λ t. length (getD (x ∷ l) t empty .blocks)), blocksInTiles-sum l)
+
 pub blocksInTiles-at : (l : List Chained) (t : ℕ) → length (getD l t empty .blocks) ≤ blocksInTiles l
 blocksInTiles-at [] t = zero-le
 blocksInTiles-at (x ∷ l) zero = omega arith
 blocksInTiles-at (x ∷ l) (suc t) = omega (arith, blocksInTiles-at l t)
+
+-- a list in as few blocks as hold it, c of at most N, has no more ids than N blocks hold
+pub held≤ : {L : Layout} {N n c : ℕ} → Fair L → c ≡ ceil n (L .ids) → c ≤ N → n ≤ L .ids * N
+held≤ {L} {N} {n} {c} A e h =
+    let w : L .ids * c ≤ L .ids * N = mul-le-mul-left (L .ids) h in
+    let v : n ≤ L .ids * c = rw e (ceil-enough n (L .ids) (A .ids>)) in
+    omega arith
 
 module _ {L : Layout} {T N : ℕ} {p : List ℕ} {s : State} (R : Shows L T N p s) where
   pub blocks-total : length (s .free) + blocksInTiles (s .tiles) ≡ N
@@ -72,13 +72,14 @@ module _ {L : Layout} {T N : ℕ} {p : List ℕ} {s : State} (R : Shows L T N p 
   pub free≤ : length (s .free) ≤ N
   free≤ = omega (arith, blocks-total)
 
+  pub chain-and-free≤ : (t : ℕ) → length (s .free) + length (tileOf s t .blocks) ≤ N
+  chain-and-free≤ t = omega (arith, blocks-total, blocksInTiles-at (s .tiles) t)
+
   pub chain≤ : (t : ℕ) → length (tileOf s t .blocks) ≤ N
-  chain≤ t = omega (arith, blocks-total, blocksInTiles-at (s .tiles) t)
+  chain≤ t = omega (arith, chain-and-free≤ t)
 
   pub entries≤ : Fair L → (t : ℕ) → t < T → length (tileOf s t .list) ≤ L .ids * N
-  entries≤ A t ht =
-      let w : L .ids * length (tileOf s t .blocks) ≤ L .ids * N = mul-le-mul-left (L .ids) (chain≤ t) in
-      omega (arith, blocks-enough A (R .tile t ht))
+  entries≤ A t ht = held≤ A (R .tile t ht .many) (chain≤ t)
 
   -- the same of the words
   pub free-count≤ : headerWord p 4 ≤ N

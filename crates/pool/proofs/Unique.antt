@@ -11,12 +11,13 @@ use Rattle.pool.specs.Sound.{TileShows, Shows, Sound}
 use Rattle.pool.proofs.Chain.{blocks-unique}
 use Rattle.pool.proofs.Lists.{listOf-tile}
 
-pub tile-unique : {L : Layout} {T : ℕ} {p : List ℕ} {t : ℕ} {x y : Chained} → Fair L → TileShows L T p t x → TileShows L T p t y → x ≡ y
-tile-unique {L} {T} {p} {t} {x} {y} A k l =
+pub tile-unique : {L : Layout} {T N : ℕ} {p : List ℕ} {t : ℕ} {x y : Chained} → Fair L → TileShows L T N p t x → TileShows L T N p t y → x ≡ y
+tile-unique {L} {T} {N} {p} {t} {x} {y} A k l =
     let e : x .blocks ≡ y .blocks
     = blocks-unique (L .ids) (L .poison) (blockWord L T p) (x .blocks) (y .blocks) (x .list) (y .list) (sym (k .first) ∙ l .first) (k .held) (l .held) in
     let f : x .list ≡ y .list = sym (listOf-tile A k) ∙ listOf-tile A l in
-    λ i. record { blocks = e i; list = f i }
+    let g : x .mark ≡ y .mark = sym (k .mark) ∙ l .mark in
+    λ i. record { blocks = e i; list = f i; mark = g i }
 
 pub state-unique : {L : Layout} {T N : ℕ} {p : List ℕ} {s r : State} → Fair L → Shows L T N p s → Shows L T N p r → s ≡ r
 state-unique {L} {T} {N} {p} {s} {r} A R Q =

@@ -1,7 +1,7 @@
 -- When a slice of words is a sound pool.
 use mathlib.Core.Path.{_≡_}
 use mathlib.Core.List.{List, []}
-use Prim.Native.Nat.{ℕ, _≤_, _<_}
+use Prim.Native.Nat.{ℕ, _*_, _≤_, _<_}
 use lib.ListN.{length, getD}
 use Rattle.numbers.specs.Ceil.{ceil}
 use Rattle.screen.specs.declared.Screen.{Screen}
@@ -29,7 +29,7 @@ pub record Opened (L : Layout) (p : List ℕ) : Type 0 where
   pub long : room L (tilesOf p) (blocksOf p) ≤ length p
 
 -- the words of tile t say x
-pub record TileShows (L : Layout) (T : ℕ) (p : List ℕ) (t : ℕ) (x : Chained) : Type 0 where
+pub record TileShows (L : Layout) (T N : ℕ) (p : List ℕ) (t : ℕ) (x : Chained) : Type 0 where
   pub entries : tileWord L p t 0 ≡ length (x .list)
   pub first : tileWord L p t 1 ≡ linkTo (x .blocks)
   pub last : tileWord L p t 2 ≡ lastLink 0 (x .blocks)
@@ -37,6 +37,10 @@ pub record TileShows (L : Layout) (T : ℕ) (p : List ℕ) (t : ℕ) (x : Chaine
   pub many : length (x .blocks) ≡ ceil (length (x .list)) (L .ids)
   pub in-range : (i : ℕ) → i < length (x .list) → getD (x .list) i 0 < L .limit
   pub held : Holds (L .ids) (L .poison) (blockWord L T p) (x .blocks) (x .list)
+  -- at least the entries, and no more than all blocks hold
+  pub mark : tileWord L p t 3 ≡ x .mark
+  pub mark≥ : length (x .list) ≤ x .mark
+  pub mark≤ : x .mark ≤ L .ids * N
 
 -- the words of a pool with T tiles and N blocks say the state s
 pub record Shows (L : Layout) (T N : ℕ) (p : List ℕ) (s : State) : Type 0 where
@@ -45,7 +49,7 @@ pub record Shows (L : Layout) (T N : ℕ) (p : List ℕ) (s : State) : Type 0 wh
   -- the free blocks are a chain and hold nothing but poison
   pub poisoned : Holds (L .ids) (L .poison) (blockWord L T p) (s .free) []
   pub tiled : length (s .tiles) ≡ T
-  pub tile : (t : ℕ) → t < T → TileShows L T p t (tileOf s t)
+  pub tile : (t : ℕ) → t < T → TileShows L T N p t (tileOf s t)
   -- every block stands in exactly one chain, once, and nothing else does
   pub once : (b : ℕ) → b < N → timesInAll b s ≡ 1
   pub none : (b : ℕ) → N ≤ b → timesInAll b s ≡ 0

@@ -6,13 +6,18 @@ use Prim.Native.Nat.{ℕ, zero, suc, _+_, _<_}
 use lib.ListN.{getD, drop}
 use lib.Dec.{eqb}
 
--- A tile: its blocks in the order of the chain, and its ids in the order of the list.
+-- A tile: its blocks in the order of the chain, its ids in the order of the list, and its mark, the most entries that it had since the opening.
 pub record Chained : Type 0 where
   pub blocks : List ℕ
   pub list : List ℕ
+  pub mark : ℕ
+
+-- without blocks and ids, by its mark
+abbrev pub emptied : (mark : ℕ) → Chained
+emptied mark = record { blocks = []; list = []; mark = mark }
 
 abbrev pub empty : Chained
-empty = record { blocks = []; list = [] }
+empty = emptied 0
 
 pub record State : Type 0 where
   pub free : List ℕ

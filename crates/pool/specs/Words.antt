@@ -7,7 +7,7 @@ use lib.ListN.{getD, set}
 pub record Layout : Type 0 where
   -- words of the header
   pub header : ℕ
-  -- words of a tile: entries, first block + 1, last block + 1, and what else there is
+  -- words of a tile: entries, first block + 1, last block + 1, mark
   pub tile : ℕ
   -- ids in a block; a block has one word more, its link
   pub ids : ℕ
@@ -18,12 +18,12 @@ pub record Layout : Type 0 where
 
 -- the first edition
 abbrev pub edition : Layout
-edition = record { header = 8; tile = 3; ids = 31; limit = 16777216; poison = 0xDEADBEEF }
+edition = record { header = 8; tile = 4; ids = 31; limit = 16777216; poison = 0xDEADBEEF }
 
 -- what the laws ask of a layout
 pub record Fair (L : Layout) : Type 0 where
   pub header> : 7 < L .header
-  pub tile> : 2 < L .tile
+  pub tile> : 3 < L .tile
   pub ids> : 0 < L .ids
 
 -- where the blocks start, after T tiles

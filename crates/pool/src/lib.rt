@@ -15,8 +15,8 @@ use screen::Screen;
 // The first edition's layout.
 pub const HEADER_WORDS: usize = 8;
 
-// entries, first block + 1, last block + 1
-pub const TILE_WORDS: usize = 3;
+// entries, first block + 1, last block + 1, the most entries since the opening
+pub const TILE_WORDS: usize = 4;
 
 pub const BLOCK_IDS: usize = 31;
 

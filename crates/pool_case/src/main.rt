@@ -1,4 +1,4 @@
-// Document 01's pool case: a screen of 64 by 32, s = 4, two blocks, in a slice of 100 words that held something else. Writes what each opening
+// Document 01's pool case: a screen of 64 by 32, s = 4, two blocks, in a slice of 108 words that held something else. Writes what each opening
 // answers, and every word that it leaves.
 use libc::STDOUT_FILENO;
 use screen::Screen;
@@ -45,8 +45,8 @@ fn opening(name: &[u8], words: &mut [u32], screen: Screen, blocks: u32) {
 }
 
 fn main() {
-    let mut long = [7u32; 100];
-    let mut short = [7u32; 95];
+    let mut long = [7u32; 108];
+    let mut short = [7u32; 103];
     let words: &mut [u32] = &mut long;
     let screen = Screen {
         width: 64,
@@ -66,10 +66,10 @@ fn main() {
     number(b"words needed:", pool::room_of(8, 2) as u64);
     opening(b"opened:", words, screen, 2);
     row(b"header:", words, 0, 8);
-    row(b"tiles:", words, 8, 32);
-    row(b"block 0:", words, 32, 64);
-    row(b"block 1:", words, 64, 96);
-    row(b"tail:", words, 96, 100);
+    row(b"tiles:", words, 8, 40);
+    row(b"block 0:", words, 40, 72);
+    row(b"block 1:", words, 72, 104);
+    row(b"tail:", words, 104, 108);
     opening(b"opened without blocks:", words, screen, 0);
     row(b"header:", words, 0, 8);
 }

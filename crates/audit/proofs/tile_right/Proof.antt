@@ -1,7 +1,8 @@
--- `audit::tile_right` says whether a tile has its chain: the walk does, and its end is compared with the word that names the last block.
+-- `audit::tile_right` says whether a tile has its chain: the walk does, and its end is compared with the word that names the last block. Its mark was
+-- tested before.
 use mathlib.Core.Path.{refl, _∙_}
 use native.Mathlib.Omega.{arith}
-use borrow.Author.Tests.{eqb-true, eqb-false}
+use borrow.Author.Tests.{eqb-true, eqb-false, not-true, not-false}
 use denote.Ref.{now}
 use Rattle.numbers.specs.Ceil.{ceil}
 use Rattle.pool.specs.Words.{edition, tileWord}
@@ -13,15 +14,21 @@ use Rattle.audit.proofs.tile_right.Statement.{statement}
 use Rattle.audit.proofs.tile_right.Tie as tie
 
 -- what the walk says, of the tile's words
-told : (c : tie.After-walk) → let a = c .before .before .before .before .before .before .before .before .args in
+told : (c : tie.After-walk) → let a = c .before .before .before .before .before .before .before .before .before .before .args in
     WalkSays edition (now (a .pool)) (a .from) (a .blocks) (tileWord edition (now (a .pool)) (a .tile .0) 1)
     (tileWord edition (now (a .pool)) (a .tile .0) 0) (ceil (tileWord edition (now (a .pool)) (a .tile .0) 0) (edition .ids)) (now (a .marks))
     (c .walk .last .1 .0) (c .walk .result)
 told c =
-    let a = c .before .before .before .before .before .before .before .before .args in
+    let a = c .before .before .before .before .before .before .before .before .before .before .args in
     of-tile edition (now (a .pool)) (a .from) (a .blocks) (now (a .marks)) (c .walk .last .1 .0) (c .walk .result) (a .tile .0)
     (c .before .before .before .wide2 .ensures ∙ tile-entries edition (now (a .pool)) (c .before .before .before .before .before .wide .ensures))
     (tile-word edition (now (a .pool)) 1 (c .before .before .before .before .before .wide .ensures)) refl (c .walk .ensures)
+
+mark-right-requires : tie.Need-mark-right-requires
+mark-right-requires c κs = search needs
+
+returns : tie.Need-returns
+returns c = passes-no (λ h apart. c .before .mark-right .ensures .no (not-true _ (c .if1 .taken)) (h .mark))
 
 wide-requires : tie.Need-wide-requires
 wide-requires c κs = search needs
@@ -65,8 +72,8 @@ enum-told c = search needs
 same-length : tie.Need-same-length
 same-length c = search needs
 
-returns : tie.Need-returns
-returns c = passes-no (λ h apart. (rw (c .enum-told .given .1) at (told (c .before .before .before .before))) (h .run) apart)
+returns-2 : tie.Need-returns-2
+returns-2 c = passes-no (λ h apart. (rw (c .enum-told .given .1) at (told (c .before .before .before .before))) (h .run) apart)
 
 add-result : tie.Need-add-result
 add-result c = search needs
@@ -80,13 +87,14 @@ shared-slice-read-result c = search needs
 same-length-2 : tie.Need-same-length-2
 same-length-2 c = search needs
 
-returns-2 : tie.Need-returns-2
-returns-2 c =
-    let a = c .before .before .before .before .before .before .before .before .before .before .before .before .before .before .args in
+returns-3 : tie.Need-returns-3
+returns-3 c =
+    let a = c .before .before .before .before .before .before .before .before .before .before .before .before .before .before .before .before .args in
     let x = rw (c .before .before .last .given .1) at (told (c .before .before .before .before .before .before)) in
     let named = tile-word edition (now (a .pool)) 2 (c .before .before .before .before .before .before .before .before .before .before .before .wide .ensures) in
+    let marked = c .before .before .before .before .before .before .before .before .before .before .before .before .before .mark-right .ensures .yes (not-false _ (c .before .before .before .before .before .before .before .before .before .before .before .before .if1 .left)) in
     record {
-      yes = λ e. (record { run = x .run; last = omega (arith, eqb-true, named, x .last-is) }, x .marked);
+      yes = λ e. (record { run = x .run; last = omega (arith, eqb-true, named, x .last-is); mark = marked }, x .marked);
       no = λ e h apart. omega (arith, eqb-false, named, h .last, x .last-is);
     }
 
@@ -94,6 +102,8 @@ pub tile-right-spec : {M : Type 1} → statement M
 tile-right-spec =
     tie.close
     (tie.spec
+    mark-right-requires
+    returns
     wide-requires
     mul-at
     add-at
@@ -108,9 +118,9 @@ tile-right-spec =
     enum-known-last
     enum-told
     same-length
-    returns
+    returns-2
     add-result
     mul-result
     shared-slice-read-result
     same-length-2
-    returns-2)
+    returns-3)

@@ -1,8 +1,9 @@
--- `put_in_last`: its two stores are those of `appendIn`.
+-- `put_in_last`: its stores are those of `appendIn`.
 use native.Mathlib.Omega.{arith}
-use lib.ListN.{length-set}
+use mathlib.Core.Path.{ap, _∙_}
+use lib.ListN.{length, length-set}
 use Rattle.pool.specs.Words.{tileSet, blockSet}
-use Rattle.lists.specs.Appending.{appendIn}
+use Rattle.lists.specs.Appending.{counted, appendIn}
 use borrow.Author.Needs.{needs}
 use Rattle.lists.proofs.put_in_last.Statement.{statement}
 use Rattle.lists.proofs.put_in_last.Tie as tie
@@ -13,8 +14,8 @@ tile-word-requires c κs = search needs
 tile-word-requires-2 : tie.Need-tile-word-requires-2
 tile-word-requires-2 c κs = search needs
 
-sub-pool : tie.Need-sub-pool
-sub-pool c = search needs
+sub-set-entries : tie.Need-sub-set-entries
+sub-set-entries c = search needs
 
 wide-requires : tie.Need-wide-requires
 wide-requires c κs = search needs
@@ -28,25 +29,20 @@ mul-pool c = search needs
 slice-write-pool : tie.Need-slice-write-pool
 slice-write-pool c = search needs
 
-add-pool : tie.Need-add-pool
-add-pool c = search needs
+add-set-entries : tie.Need-add-set-entries
+add-set-entries c = search needs
 
-tile-index-requires : tie.Need-tile-index-requires
-tile-index-requires c κs = search needs
-
-mul-pool-2 : tie.Need-mul-pool-2
-mul-pool-2 c = search needs
-
-slice-write-pool-2 : tie.Need-slice-write-pool-2
-slice-write-pool-2 c = simp length-set (omega arith)
+set-entries-requires : tie.Need-set-entries-requires
+set-entries-requires c κs = search needs
 
 same-length : tie.Need-same-length
-same-length c = search needs
+unfolding counted tileSet
+same-length c = ap length (c .before .before .set-entries .ensures) ∙ simp length-set
 
 returns : tie.Need-returns
 unfolding appendIn tileSet blockSet
 returns c =
-    rw (c .tile-index .ensures, c .before .block-index .ensures, c .before .before .wide .ensures, c .before .before .before .tile-word2 .ensures, c .before .before .before .before .before .tile-word .ensures)
+    rw (c .before .before .set-entries .ensures, c .before .before .before .before .block-index .ensures, c .before .before .before .before .before .wide .ensures, c .before .before .before .before .before .before .tile-word2 .ensures, c .before .before .before .before .before .before .before .before .tile-word .ensures)
 
 pub put-in-last-spec : {M : Type 1} → statement M
 put-in-last-spec =
@@ -54,14 +50,12 @@ put-in-last-spec =
     (tie.spec
     tile-word-requires
     tile-word-requires-2
-    sub-pool
+    sub-set-entries
     wide-requires
     block-index-requires
     mul-pool
     slice-write-pool
-    add-pool
-    tile-index-requires
-    mul-pool-2
-    slice-write-pool-2
+    add-set-entries
+    set-entries-requires
     same-length
     returns)

@@ -1,8 +1,9 @@
 -- `take_block`: its stores are those of `takeBlock`.
 use native.Mathlib.Omega.{arith}
-use lib.ListN.{length-set}
+use mathlib.Core.Path.{ap, _∙_}
+use lib.ListN.{length, length-set}
 use Rattle.pool.specs.Words.{tileSet, blockSet}
-use Rattle.lists.specs.Appending.{takeBlock}
+use Rattle.lists.specs.Appending.{counted, takeBlock}
 use borrow.Author.Needs.{needs}
 use Rattle.lists.proofs.take_block.Statement.{statement}
 use Rattle.lists.proofs.take_block.Tie as tie
@@ -34,25 +35,20 @@ mul-pool-2 c = search needs
 slice-write-pool-2 : tie.Need-slice-write-pool-2
 slice-write-pool-2 c = simp length-set (omega arith)
 
-add-pool-2 : tie.Need-add-pool-2
-add-pool-2 c = search needs
+add-set-entries : tie.Need-add-set-entries
+add-set-entries c = search needs
 
-tile-index-requires-2 : tie.Need-tile-index-requires-2
-tile-index-requires-2 c κs = search needs
-
-mul-pool-3 : tie.Need-mul-pool-3
-mul-pool-3 c = search needs
-
-slice-write-pool-3 : tie.Need-slice-write-pool-3
-slice-write-pool-3 c = simp length-set (omega arith)
+set-entries-requires : tie.Need-set-entries-requires
+set-entries-requires c κs = search needs
 
 same-length : tie.Need-same-length
-same-length c = search needs
+unfolding counted tileSet
+same-length c = ap length (c .before .before .set-entries .ensures) ∙ simp length-set (c .before .before .before .before .before .before .before .before .pool .given)
 
 returns : tie.Need-returns
 unfolding takeBlock tileSet blockSet
 returns c =
-    rw (c .tile-index2 .ensures, c .before .tile-index .ensures, c .before .before .before .block-index .ensures, c .before .before .before .before .before .before .take-head .ensures, c .before .before .before .before .before .before .before .before .tile-word .ensures)
+    rw (c .before .before .set-entries .ensures, c .before .before .before .before .tile-index .ensures, c .before .before .before .before .before .before .block-index .ensures, c .before .before .before .before .before .before .before .before .before .take-head .ensures, c .before .before .before .before .before .before .before .before .before .before .before .tile-word .ensures)
 
 pub take-block-spec : {M : Type 1} → statement M
 take-block-spec =
@@ -67,9 +63,7 @@ take-block-spec =
     tile-index-requires
     mul-pool-2
     slice-write-pool-2
-    add-pool-2
-    tile-index-requires-2
-    mul-pool-3
-    slice-write-pool-3
+    add-set-entries
+    set-entries-requires
     same-length
     returns)

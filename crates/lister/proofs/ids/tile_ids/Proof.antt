@@ -23,7 +23,7 @@ abbrev μ-loop : tie.MeasureT-loop
 μ-loop pool from ids₀ number at entries link₀ done₀ ids link done = entries - done
 
 -- the words of the tile lie within the pool
-words : (s : tie.Start Inv-loop μ-loop) → 8 + 3 * s .args .tile .0 + 3 ≤ length (now (s .args .pool))
+words : (s : tie.Start Inv-loop μ-loop) → edition .header + edition .tile * s .args .tile .0 + edition .tile ≤ length (now (s .args .pool))
 words s = tile-within (now (s .args .pool)) (s .pre .0) (s .args .tile .0) (s .pre .1 .0 .1)
 
 -- the link names a block, which lies within the pool

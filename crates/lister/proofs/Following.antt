@@ -107,7 +107,7 @@ module _ (p : List ℕ) (S : Sound edition p) where
   module _ (t : ℕ) (ht : t < tilesOf p) where
     pub tile-within : edition .header + edition .tile * t + edition .tile ≤ length p
     unfolding room start
-    tile-within = omega (arith, S .opened .long, mul-le-mul-left 3 ht)
+    tile-within = omega (arith, S .opened .long, ht)
 
     pub tile-entries : getD p (edition .header + edition .tile * t) 0 ≡ length (listOf edition (tilesOf p) p t)
     unfolding tileWord

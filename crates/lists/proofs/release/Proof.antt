@@ -60,31 +60,31 @@ loop-again c =
     (search needs, giving-step (c .before .before .before .before .before .before .before .loop .inv .1) (c .before .before .before .before .before .before .loop-test .taken) _ _ _ (omega arith) (c .before .before .give-block .ensures) (c .before .before .before .before .block-word .ensures))
 
 tile-index-requires : tie.Need-tile-index-requires Inv-loop μ-loop
-tile-index-requires c κs = omega (arith, tile-in (c .before .before .before .before .before .pre) {i = 0} (omega arith))
+tile-index-requires c κs = omega (arith, tile-in (c .before .before .before .before .before .pre) {i = 3} (omega arith))
 
 mul-pool : tie.Need-mul-pool Inv-loop μ-loop
-mul-pool c = omega (arith, tile-in (c .before .before .before .before .before .before .pre) {i = 0} (omega arith), c .tile-index .ensures)
+mul-pool c = omega (arith, tile-in (c .before .before .before .before .before .before .pre) {i = 3} (omega arith), c .tile-index .ensures)
 
 slice-write-pool : tie.Need-slice-write-pool Inv-loop μ-loop
-slice-write-pool c = omega (arith, tile-in (c .before .before .before .before .before .before .pre) {i = 0} (omega arith), c .tile-index .ensures, c .before .before .loop .inv .0)
+slice-write-pool c = omega (arith, tile-in (c .before .before .before .before .before .before .pre) {i = 3} (omega arith), c .tile-index .ensures, c .before .before .loop .inv .0)
 
 tile-index-requires-2 : tie.Need-tile-index-requires-2 Inv-loop μ-loop
-tile-index-requires-2 c κs = omega (arith, tile-in (c .before .before .before .before .before .before .pre) {i = 1} (omega arith))
+tile-index-requires-2 c κs = omega (arith, tile-in (c .before .before .before .before .before .before .pre) {i = 3} (omega arith))
 
 mul-pool-2 : tie.Need-mul-pool-2 Inv-loop μ-loop
-mul-pool-2 c = omega (arith, tile-in (c .before .before .before .before .before .before .before .pre) {i = 1} (omega arith), c .tile-index2 .ensures)
+mul-pool-2 c = omega (arith, tile-in (c .before .before .before .before .before .before .before .pre) {i = 3} (omega arith), c .tile-index2 .ensures)
 
 slice-write-pool-2 : tie.Need-slice-write-pool-2 Inv-loop μ-loop
-slice-write-pool-2 c = simp length-set (omega (arith, tile-in (c .before .before .before .before .before .before .before .pre) {i = 1} (omega arith), c .tile-index2 .ensures, c .before .before .before .loop .inv .0))
+slice-write-pool-2 c = simp length-set (omega (arith, tile-in (c .before .before .before .before .before .before .before .pre) {i = 3} (omega arith), c .tile-index2 .ensures, c .before .before .before .loop .inv .0))
 
 tile-index-requires-3 : tie.Need-tile-index-requires-3 Inv-loop μ-loop
-tile-index-requires-3 c κs = omega (arith, tile-in (c .before .before .before .before .before .before .before .pre) {i = 2} (omega arith))
+tile-index-requires-3 c κs = omega (arith, tile-in (c .before .before .before .before .before .before .before .pre) {i = 3} (omega arith))
 
 mul-pool-3 : tie.Need-mul-pool-3 Inv-loop μ-loop
-mul-pool-3 c = omega (arith, tile-in (c .before .before .before .before .before .before .before .before .pre) {i = 2} (omega arith), c .tile-index3 .ensures)
+mul-pool-3 c = omega (arith, tile-in (c .before .before .before .before .before .before .before .before .pre) {i = 3} (omega arith), c .tile-index3 .ensures)
 
 slice-write-pool-3 : tie.Need-slice-write-pool-3 Inv-loop μ-loop
-slice-write-pool-3 c = simp length-set (omega (arith, tile-in (c .before .before .before .before .before .before .before .before .pre) {i = 2} (omega arith), c .tile-index3 .ensures, c .before .before .before .before .loop .inv .0))
+slice-write-pool-3 c = simp length-set (omega (arith, tile-in (c .before .before .before .before .before .before .before .before .pre) {i = 3} (omega arith), c .tile-index3 .ensures, c .before .before .before .before .loop .inv .0))
 
 same-length : tie.Need-same-length Inv-loop μ-loop
 same-length c = simp length-set (c .before .before .before .before .loop .inv .0)

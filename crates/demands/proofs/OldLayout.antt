@@ -1,5 +1,5 @@
 -- A pool of three words a tile is not sound: its word 7 is that of another layout. And where a pool is not sound, every call answers 4.
-use mathlib.Core.Path.{_≡_, sym, ap, _∙_}
+use mathlib.Core.Path.{_≡_, ap}
 use mathlib.Core.List.{List}
 use Prim.Native.Nat.{ℕ, _*_, _≤_, _<_}
 use native.Mathlib.Nat.{mul-le-mul-left}
@@ -14,7 +14,7 @@ use Rattle.calls.specs.declared.Found.{Found}
 use Rattle.calls.specs.declared.HighWater.{HighWater}
 use Rattle.calls.specs.Tables.{AuditSays, BinSays, BinPixelsSays, ReadSays, HighWaterSays, ReleaseSays}
 use Rattle.demands.specs.History.{Entry, binned, binned-pixels, found, released, numberOf, Step}
-use Rattle.demands.specs.OldLayout.{unmarked, Answers4, OldLayoutAnswers4}
+use Rattle.demands.specs.OldLayout.{unmarked, OldLayoutAnswers4}
 
 old-unsound : {p : List ℕ} → Opened unmarked p → Sound edition p → ⊥
 unfolding start

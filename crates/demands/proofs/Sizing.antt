@@ -8,7 +8,7 @@ use native.Mathlib.Omega.{arith}
 use lib.ListN.{length}
 use Rattle.numbers.specs.Ceil.{ceil}
 use Rattle.numbers.specs.Sum.{sumTo}
-use Rattle.numbers.proofs.Ceil.{eq-or-ne, lt-or-ge, ceil≤}
+use Rattle.numbers.proofs.Ceil.{lt-or-ge, ceil≤}
 use Rattle.numbers.proofs.Sum.{sumTo≤}
 use Rattle.screen.specs.declared.Screen.{Screen}
 use Rattle.screen.specs.Screen.{tiles}

@@ -1,5 +1,4 @@
 -- `put_in_last`: its stores are those of `appendIn`.
-use native.Mathlib.Omega.{arith}
 use mathlib.Core.Path.{ap, _∙_}
 use lib.ListN.{length, length-set}
 use Rattle.pool.specs.Words.{tileSet, blockSet}

@@ -166,8 +166,8 @@ impl<'a> Pool<'a> {
 
     /// A tile's mark: the most entries that its list had since the opening.
     ///
-    /// Where no call since then was refused for room, a pool with as many blocks as the marks of all tiles need, 31 entries
-    /// to a block, gives each of these calls the same answer.
+    /// Where no call since then was refused for room, a pool for the same screen with as many blocks as the marks of all
+    /// tiles need, 31 entries to a block, gives each of these calls the same answer.
     pub fn high_water(&self, tile: u32) -> Result<u32, Refusal> {
         raw::high_water(self.words, tile).done().map(|[entries]| entries)
     }

@@ -9,12 +9,14 @@ use crate::call::{Call, Outcome, Slot};
 /// How many marks the archive is asked for after a call.
 const ASKED: usize = 16;
 
-/// A slot, and the greatest length that each list had since the opening; none before that.
+/// A slot whose marks are held against its lists.
 pub struct Watched {
     pub slot: Slot,
+    /// the greatest length that each list had since the opening; none before that
     greatest: Vec<u32>,
     /// after how many calls a list was shorter than it had been
     pub shorter: u64,
+    /// the tile whose mark is asked for next
     next: usize,
 }
 

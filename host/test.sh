@@ -1,6 +1,7 @@
 #!/usr/bin/env bash
 # The tests of target/host/libflourscoop.a, which host/build.sh makes: every call from C and from C++, the model by itself,
-# and the archive against the model. The last line is 'N passed, M failed'; the exit status is 0 only where M is 0.
+# the archive against the model, and the planner on its lists. The last line is 'N passed, M failed'; the exit status is 0
+# only where M is 0.
 set -u
 cd "$(dirname "${BASH_SOURCE[0]}")" || exit 2
 . ./steps.sh
@@ -28,7 +29,7 @@ say "every call from C and from C++"
 calls_from cc -std=c99
 calls_from c++ -std=c++11 -x c++
 
-say "the archive against the model; about half a minute, and another to compile the first time"
+say "the archive against the model, and the planner; about 40 seconds, and half a minute to compile the first time"
 log=$made/cargo-test.log
 cargo test --offline --locked --no-fail-fast -- --show-output </dev/null 2>&1 | tee "$log"
 ended=${PIPESTATUS[0]}

@@ -1,5 +1,5 @@
 /* Every call by include/flourscoop.h, from C or C++: document 01's pool case, and one answer and one refusal of each; tiles
-   that the screen cuts; the header's room, texts and version. */
+   that the screen cuts; marks, and the blocks that they ask for; the header's room, texts and version. */
 #include <float.h>
 #include <math.h>
 #include <stdio.h>
@@ -53,22 +53,49 @@ static void expect_kept(const char *what)
 /* Keeps the words of the pool case as they are after the opening. */
 static void keep_opened(void)
 {
-    static const uint32_t header[8] = {64, 32, 4, 2, 2, 1, 8, 32};
+    static const uint32_t header[8] = {64, 32, 4, 2, 2, 1, 8, 40};
     memset(kept, 0, sizeof kept);
     memcpy(kept, header, sizeof header);
     for (size_t place = 0; place < 31; place++)
-        kept[32 + place] = kept[64 + place] = 0xDEADBEEF;
-    kept[63] = 2;
+        kept[40 + place] = kept[72 + place] = 0xDEADBEEF;
+    kept[71] = 2;
 }
 
 /* Keeps the words of the pool case as they are after the bin of id 7. */
 static void keep_binned(void)
 {
-    static const uint32_t header_and_tile[11] = {64, 32, 4, 2, 1, 2, 8, 32, 1, 1, 1};
+    static const uint32_t header_and_tile[12] = {64, 32, 4, 2, 1, 2, 8, 40, 1, 1, 1, 1};
     keep_opened();
     memcpy(kept, header_and_tile, sizeof header_and_tile);
-    kept[32] = 7;
-    kept[63] = 0;
+    kept[40] = 7;
+    kept[71] = 0;
+}
+
+/* Asks for a mark; zero is written where it is refused. */
+static void expect_mark(const uint32_t *words, size_t length, uint32_t tile, uint32_t wanted, uint32_t mark)
+{
+    value = 0xAAAAAAAA;
+    expect("high_water", flourscoop_high_water(words, length, tile, &value), wanted, mark, 0);
+}
+
+/* The words of the pool with three to a tile, as versions before 0.3.0 wrote them: each call answers 4 and changes none. */
+static void expect_old_refused(void)
+{
+    enum { OLD_WORDS = 96 };
+    uint32_t old[OLD_WORDS], before[OLD_WORDS];
+    memcpy(old, pool, 7 * sizeof *old);
+    old[7] = 32;
+    for (size_t tile = 0; tile < 8; tile++)
+        memcpy(old + 8 + 3 * tile, pool + 8 + 4 * tile, 3 * sizeof *old);
+    memcpy(old + 32, pool + 40, 64 * sizeof *old);
+    memcpy(before, old, sizeof old);
+    expect("audit", flourscoop_audit(old, OLD_WORDS), FLOURSCOOP_UNSOUND, 0, 0);
+    expect("bin", flourscoop_bin_point(old, OLD_WORDS, 1, 0, 0, &value, &other), FLOURSCOOP_UNSOUND, 0, 0);
+    expect("bin", flourscoop_bin_pixels_point(old, OLD_WORDS, 1, 0, 0, &value, &other), FLOURSCOOP_UNSOUND, 0, 0);
+    expect("read", flourscoop_read(old, OLD_WORDS, 0, 0, &value), FLOURSCOOP_UNSOUND, 0, 0);
+    expect_mark(old, OLD_WORDS, 0, FLOURSCOOP_UNSOUND, 0);
+    expect("release", flourscoop_release(old, OLD_WORDS, 0, &value), FLOURSCOOP_UNSOUND, 0, 0);
+    expect_that(memcmp(old, before, sizeof old) == 0, "the words with three to a tile stay");
 }
 
 /* The pool case, word by word. */
@@ -77,18 +104,71 @@ static void pool_case(void)
     expect("open", flourscoop_open(pool, WORDS, WIDTH, HEIGHT, S, BLOCKS), FLOURSCOOP_DONE, 0, 0);
     keep_opened();
     expect_kept("the words after the opening");
+    expect_old_refused();
     expect("audit", flourscoop_audit(pool, WORDS), FLOURSCOOP_DONE, 0, 0);
 
     expect("bin (0,0)", flourscoop_bin_point(pool, WORDS, 7, 0, 0, &value, &other), FLOURSCOOP_DONE, 1, 1);
     keep_binned();
     expect_kept("the words after the bin");
+    expect_old_refused();
     expect("read", flourscoop_read(pool, WORDS, 0, 0, &value), FLOURSCOOP_DONE, 7, 0);
+    expect_mark(pool, WORDS, 0, FLOURSCOOP_DONE, 1);
     expect("bin (256,256)", flourscoop_bin_point(pool, WORDS, 9, 256, 256, &value, &other), FLOURSCOOP_NO_ROOM, 0, 0);
     expect_kept("the words after the refusal");
 
     expect("release", flourscoop_release(pool, WORDS, 0, &value), FLOURSCOOP_DONE, 1, 0);
     keep_opened();
+    kept[11] = 1; /* the mark of tile 0 */
     expect_kept("the words after the release");
+}
+
+/* Marks of the pool case after its release, and of words that are no sound pool. */
+static void marks(void)
+{
+    expect_mark(pool, WORDS, 0, FLOURSCOOP_DONE, 1);
+    expect_mark(pool, WORDS, 1, FLOURSCOOP_DONE, 0);
+    expect_mark(pool, WORDS, 7, FLOURSCOOP_DONE, 0);
+    expect_mark(pool, WORDS, 8, FLOURSCOOP_NO_TILE, 0);
+    expect_mark(pool, WORDS, UINT32_MAX, FLOURSCOOP_NO_TILE, 0);
+    expect_mark(pool, WORDS - 1, 8, FLOURSCOOP_UNSOUND, 0);
+    expect_mark(NULL, 0, 0, FLOURSCOOP_UNSOUND, 0);
+    /* two blocks hold 62 entries */
+    pool[11] = 62;
+    expect_mark(pool, WORDS, 0, FLOURSCOOP_DONE, 62);
+    pool[11] = 63;
+    expect_mark(pool, WORDS, 0, FLOURSCOOP_UNSOUND, 0);
+    pool[11] = 1;
+    expect_kept("the words after the marks");
+}
+
+/* The blocks that the marks of a pool ask for, as the header has it. */
+static uint32_t blocks_by_marks(const uint32_t *words, size_t length)
+{
+    uint32_t tile, mark, blocks = 0;
+    for (tile = 0; flourscoop_high_water(words, length, tile, &mark) == FLOURSCOOP_DONE; tile++)
+        blocks += (mark + 30) / 31;
+    return blocks;
+}
+
+/* Bins 32 points in tile 0 and one in tile 1, and answers how many of these were refused for room. */
+static int refused_in(uint32_t *words, size_t length, uint32_t blocks)
+{
+    int refused = 0;
+    expect("open", flourscoop_open(words, length, WIDTH, HEIGHT, S, blocks), FLOURSCOOP_DONE, 0, 0);
+    for (uint32_t id = 0; id < 33; id++)
+        refused += flourscoop_bin_point(words, length, id, id < 32 ? 10 : 300, 10, &value, &other) == FLOURSCOOP_NO_ROOM;
+    value = other = 0;
+    return refused;
+}
+
+/* As many blocks as the marks ask for are enough, and here one less is not. */
+static void blocks_for_marks(void)
+{
+    static uint32_t large[FLOURSCOOP_ROOM(WIDTH, HEIGHT, S, 2048)];
+    const size_t length = sizeof large / sizeof *large;
+    expect_that(refused_in(large, length, 2048) == 0 && blocks_by_marks(large, length) == 3, "the marks ask for 3 blocks");
+    expect_that(refused_in(large, length, 3) == 0, "3 blocks are enough");
+    expect_that(refused_in(large, length, 2) == 1, "2 blocks are not");
 }
 
 /* The shapes in units and in pixels; each is listed in tile 0 and 1, and released. */
@@ -105,6 +185,7 @@ static void shapes(void)
         default: number = flourscoop_bin_pixels_triangle(pool, WORDS, 1, 6, 6, 19, 6, 12, 12, &value, &other); break;
         }
         expect("bin", number, FLOURSCOOP_DONE, 2, 2);
+        kept[15] = 1; /* the mark of tile 1 */
         /* in this order, so that the free chain rises again */
         expect("release 1", flourscoop_release(pool, WORDS, 1, &value), FLOURSCOOP_DONE, 1, 0);
         expect("release 0", flourscoop_release(pool, WORDS, 0, &value), FLOURSCOOP_DONE, 1, 0);
@@ -221,6 +302,7 @@ static void refusals(void)
     expect("6", flourscoop_bin_pixels_point(pool, WORDS, 1, INFINITY, 0, &value, &other), FLOURSCOOP_NOT_FINITE, 0, 0);
     expect("7", flourscoop_bin_point(pool, WORDS, 1, 262144, 0, &value, &other), FLOURSCOOP_OUT_OF_RANGE, 0, 0);
     expect("9", flourscoop_release(pool, WORDS, 8, &value), FLOURSCOOP_NO_TILE, 0, 0);
+    expect("9", flourscoop_high_water(pool, WORDS, 8, &value), FLOURSCOOP_NO_TILE, 0, 0);
     expect("10", flourscoop_read(pool, WORDS, 0, 0, &value), FLOURSCOOP_NO_PLACE, 0, 0);
     expect_kept("the words after the refusals");
 }
@@ -243,11 +325,11 @@ static size_t room_of_ints(int width, int height, int s, int blocks)
 /* The room is the same for constants and for each type of the arguments. */
 static void rooms(void)
 {
-    expect_that(sizeof pool == 96 * sizeof *pool, "the pool case has 96 words");
-    expect_that(FLOURSCOOP_ROOM(4096, 4096, 6, 2048) == 77832, "the largest pool has 77,832 words");
-    expect_that(room_of_sizes(60, 31, 4, 2) == 96, "a room of size_t");
-    expect_that(room_of_words(60, 31, 4, 2) == 96, "a room of uint32_t");
-    expect_that(room_of_ints(60, 31, 4, 2) == 96, "a room of int");
+    expect_that(sizeof pool == 104 * sizeof *pool, "the pool case has 104 words");
+    expect_that(FLOURSCOOP_ROOM(4096, 4096, 6, 2048) == 81928, "the largest pool has 81,928 words");
+    expect_that(room_of_sizes(60, 31, 4, 2) == 104, "a room of size_t");
+    expect_that(room_of_words(60, 31, 4, 2) == 104, "a room of uint32_t");
+    expect_that(room_of_ints(60, 31, 4, 2) == 104, "a room of int");
 }
 
 /* Each number has a text of its own, and so have all others together; the version is said twice alike. */
@@ -267,10 +349,12 @@ static void texts(void)
 int main(void)
 {
     pool_case();
+    marks();
     shapes();
     units();
     questions();
     refusals();
+    blocks_for_marks();
     ends();
     rooms();
     texts();

@@ -33,6 +33,7 @@ static void pixels_triangle(void)
 }
 static void unit(void) { number = flourscoop_unit(-900.3f, &units); }
 static void read_id(void) { number = flourscoop_read(pool, WORDS, 0, 1, &value); }
+static void high_water(void) { number = flourscoop_high_water(pool, WORDS, 0, &value); }
 static void release(void) { number = flourscoop_release(pool, WORDS, 0, &value); }
 static void box_point(void) { number = flourscoop_box_point(WIDTH, HEIGHT, S, 0, 9, 9, &value); }
 static void box_line(void) { number = flourscoop_box_line(WIDTH, HEIGHT, S, 0, 0, 0, 99, 99, &value); }
@@ -77,6 +78,7 @@ int main(void)
         {"bin_pixels_triangle", pixels_triangle},
         {"unit", unit},
         {"read", read_id},
+        {"high_water", high_water},
         {"release", release},
         {"box_point", box_point},
         {"box_line", box_line},

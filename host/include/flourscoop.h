@@ -16,12 +16,12 @@
  *
  * THREADS AND INTERRUPTS
  *   Calls on different pools are independent and may run at the same time. Calls on one pool must not overlap; two calls
- *   of which each only audits or reads may. Calls that take no pool may always run.
+ *   of which each only audits, reads or asks for a mark may. Calls that take no pool may always run.
  *
  * STACK, in bytes, as measured, on x86-64 of version 0.2.0; of bin's, 16,384 list the touched tiles
- *               bin      audit   read    release   corner   box   open   unit
- *     x86-64    17,296   2,240   2,272   2,272     352      192   64     16
- *     Arm       17,216   2,256   2,304   2,288     240      160   64     32
+ *               bin      audit   read    high_water   release   corner   box   open   unit
+ *     x86-64    17,296   2,240   2,272   -            2,272     352      192   64     16
+ *     Arm       17,216   2,256   2,304   2,288        2,288     240      160   64     32
  *
  * SCREEN AND UNITS
  *   A screen has a width and a height of 1 to 4,096 pixels. A tile is a square of 2^s by 2^s pixels, s from 3 to 6, cut
@@ -39,33 +39,47 @@
  *   its point.
  *
  * THE POOL
- *   It needs 8 + 3*tiles + 32*blocks words (FLOURSCOOP_ROOM), which are these. A link is a block's number plus 1, or 0 for
+ *   It needs 8 + 4*tiles + 32*blocks words (FLOURSCOOP_ROOM), which are these. A link is a block's number plus 1, or 0 for
  *   none. Blocks are numbered from 0.
  *     word 0, 1, 2    width, height, s
  *     word 3          blocks, 0 to 2,048
  *     word 4          free blocks
  *     word 5          link to the first free block
  *     word 6          where the tiles start: 8
- *     word 7          where the blocks start: 8 + 3*tiles
- *   Then three words for each tile, tile t from word 8 + 3*t: entries, link to its first block, link to its last block.
- *   An empty tile has 0, 0, 0.
+ *     word 7          where the blocks start: 8 + 4*tiles
+ *   Then four words for each tile, tile t from word 8 + 4*t: entries, link to its first block, link to its last block, and
+ *   its mark, the most entries that it had since the opening. A tile that never had an entry has 0, 0, 0, 0, a released one
+ *   0, 0, 0 and its mark. A mark is at least the tile's entries and at most 31*blocks.
  *   Then 32 words for each block, block b from word (word 7) + 32*b: 31 places for ids, then the link to the next block.
  *   A tile with q entries has a chain of q/31 blocks, rounded up; its list is the first q places along the chain. The free
  *   blocks are a chain as well. Every block stands in one of these chains, once. An id is 0 to 16,777,215. Each place
  *   without an id, those of free blocks too, holds poison, 0xDEADBEEF.
- *   Open chains the free blocks in rising order. Bin takes the head of the free chain for a tile exactly where its number of
- *   entries is a multiple of 31, zero included. Release gives the blocks back in the order of their chain, each poisoned
- *   and made the new head of the free chain, so that the last of them is taken first.
+ *   Open chains the free blocks in rising order and sets each mark to 0. Bin takes the head of the free chain for a tile
+ *   exactly where its number of entries is a multiple of 31, zero included; where the entries pass the mark, the mark
+ *   rises with them. Release gives the blocks back in the order of their chain, each poisoned and made the new head of the
+ *   free chain, so that the last of them is taken first. It keeps the mark.
+ *   Words with three to a tile, as versions before 0.3.0 wrote them, are not a sound pool: calls on them answer 4.
  *
- *   An example: a screen of 64 by 32 with s = 4 has 8 tiles; with 2 blocks it needs 96 words. Opened, and then id 7 binned
+ *   An example: a screen of 64 by 32 with s = 4 has 8 tiles; with 2 blocks it needs 104 words. Opened, and then id 7 binned
  *   as the point (0,0), which touches tile 0 alone:
- *     word  0 to  7   64 32 4 2 1 2 8 32            block 1 is the one free block
- *     word  8 to 10   1 1 1                         tile 0: one entry; block 0 is its first and last
- *     word 11 to 31   0, each                       the other tiles are empty
- *     word 32 to 63   7, 30 times poison, 0         block 0: id 7, and no next block
- *     word 64 to 95   31 times poison, 0            block 1: free, and no next block
+ *     word  0 to   7   64 32 4 2 1 2 8 40            block 1 is the one free block
+ *     word  8 to  11   1 1 1 1                       tile 0: one entry; block 0 is its first and last; its mark is 1
+ *     word 12 to  39   0, each                       the other tiles never had an entry
+ *     word 40 to  71   7, 30 times poison, 0         block 0: id 7, and no next block
+ *     word 72 to 103   31 times poison, 0            block 1: free, and no next block
  *   Then id 9 as the point (256,256) touches tiles 0, 1, 4 and 5, of which three are empty and need a block each: it is
- *   refused with 8, and no word changes.
+ *   refused with 8, and no word changes. A release of tile 0 brings back the opened pool but for word 11, the mark, which
+ *   stays 1.
+ *
+ * HOW MANY BLOCKS
+ *   The marks tell. Open a pool with blocks to spare, make the calls of a frame, and add up the blocks that the marks need:
+ *     uint32_t tile, mark, blocks = 0;
+ *     for (tile = 0; flourscoop_high_water(pool, words, tile, &mark) == FLOURSCOOP_DONE; tile++)
+ *         blocks += (mark + 30) / 31;
+ *   Where no call was refused with 8, a pool for the same screen with at least so many blocks gives each of these calls the
+ *   same answer. Where one was, the marks do not count it: make the calls again in a pool with more blocks. Where tiles
+ *   are released between bins, one can take the blocks that another gave back, and for the very same calls fewer do: the
+ *   most that were in use at once, word 3 less word 4.
  */
 #ifndef FLOURSCOOP_H
 #define FLOURSCOOP_H
@@ -79,9 +93,9 @@ extern "C" {
 
 /* The version of this header, and of the archive that goes with it. */
 #define FLOURSCOOP_VERSION_MAJOR 0
-#define FLOURSCOOP_VERSION_MINOR 2
-#define FLOURSCOOP_VERSION_PATCH 1
-#define FLOURSCOOP_VERSION "0.2.1"
+#define FLOURSCOOP_VERSION_MINOR 3
+#define FLOURSCOOP_VERSION_PATCH 0
+#define FLOURSCOOP_VERSION "0.3.0"
 
 /* The numbers; their texts follow. Where several causes apply, each call's comment has the order of looking for them. */
 #define FLOURSCOOP_DONE 0u
@@ -121,17 +135,17 @@ static inline const char *flourscoop_number_text(uint32_t number)
  */
 #define FLOURSCOOP_ACROSS(extent, s) (((size_t)(extent) + ((size_t)1 << (s)) - 1u) >> (s))
 #define FLOURSCOOP_ROOM(width, height, s, blocks) \
-    (8u + 3u * FLOURSCOOP_ACROSS(width, s) * FLOURSCOOP_ACROSS(height, s) + 32u * (size_t)(blocks))
+    (8u + 4u * FLOURSCOOP_ACROSS(width, s) * FLOURSCOOP_ACROSS(height, s) + 32u * (size_t)(blocks))
 
 /*
- * Opens a pool: all tiles empty, all blocks free. What stood in the words before does not matter.
+ * Opens a pool: all tiles empty, all marks 0, all blocks free. What stood in the words before does not matter.
  * Returns 0; or 1, 2, 3, in this order.
  */
 uint32_t flourscoop_open(uint32_t *pool, size_t words, uint32_t width, uint32_t height, uint32_t s, uint32_t blocks);
 
 /*
- * Says whether the words are a sound pool: header, chains, counts, ids in range and poison in every unused place.
- * It does not detect one valid id replaced by another. Every call on a pool does this first.
+ * Says whether the words are a sound pool: header, chains, counts, marks and ids in range, poison in every unused place.
+ * It does not detect one valid id replaced by another, nor one mark in range. Every call on a pool does this first.
  * Returns 0 for yes, 4 for no.
  */
 uint32_t flourscoop_audit(const uint32_t *pool, size_t words);
@@ -179,8 +193,14 @@ uint32_t flourscoop_unit(float v, int32_t *unit);
 uint32_t flourscoop_read(const uint32_t *pool, size_t words, uint32_t tile, uint32_t place, uint32_t *id);
 
 /*
- * Empties a tile's list and gives its blocks back. Writes how many they were; an empty tile gives 0 back and changes
- * nothing.
+ * Writes the most entries that a tile's list had since the opening. A release does not lower it.
+ * Returns 0; or 4, 9, in this order.
+ */
+uint32_t flourscoop_high_water(const uint32_t *pool, size_t words, uint32_t tile, uint32_t *entries);
+
+/*
+ * Empties a tile's list and gives its blocks back; its mark stays. Writes how many they were; an empty tile gives 0 back
+ * and changes nothing.
  * Returns 0; or 4, 9, in this order.
  */
 uint32_t flourscoop_release(uint32_t *pool, size_t words, uint32_t tile, uint32_t *blocks);

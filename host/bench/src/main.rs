@@ -95,7 +95,7 @@ fn filled(shapes: &[Shape<Vertex>]) -> (Vec<u32>, Plain) {
 /// The archive's list of each tile is the plain binner's, id by id.
 fn same_lists(words: &[u32], plain: &Plain) {
     for (tile, list) in (0..).zip(&plain.lists) {
-        assert_eq!(words[8 + 3 * tile as usize] as usize, list.len());
+        assert_eq!(words[8 + 4 * tile as usize] as usize, list.len());
         for (place, &id) in (0..).zip(list) {
             assert_eq!(raw::read(words, tile, place).done(), Ok([id]));
         }
@@ -149,6 +149,15 @@ fn calls_on(kind: &str, shapes: &[Shape<Vertex>], less_audit: fn(f64) -> Beside)
             }
         },
     );
+    let high_water = time(
+        TILES as usize,
+        || words.clone(),
+        |words| {
+            for tile in 0..TILES {
+                black_box(raw::high_water(words, tile));
+            }
+        },
+    );
     let release = time(
         TILES as usize,
         || words.clone(),
@@ -172,6 +181,7 @@ fn calls_on(kind: &str, shapes: &[Shape<Vertex>], less_audit: fn(f64) -> Beside)
         row(format!("bin, {kind}, less its audit"), rest, less_audit(bin_plain)),
         row(format!("audit, {kind}"), audit, Beside::Nothing),
         row(format!("read, {kind}"), read, Beside::Plain(read_plain)),
+        row(format!("high_water, {kind}"), high_water, Beside::Nothing),
         row(format!("release, {kind}"), release, Beside::Plain(release_plain)),
     ]
 }

@@ -15,6 +15,10 @@
 //! assert_eq!(pool.bin(9, Shape::Point(Vertex { x: 256, y: 256 })), Err(Refusal::NoRoom));
 //! assert_eq!(pool.release(0)?, 1);
 //!
+//! // the list is empty again, and its mark stays
+//! assert_eq!(pool.read(0, 0), Err(Refusal::NoPlace));
+//! assert_eq!(pool.high_water(0)?, 1);
+//!
 //! // 1.5 units lie half way between two, of which 2 is even
 //! assert_eq!(unit(0.09375)?, 2);
 //! # Ok::<(), Refusal>(())
@@ -118,7 +122,7 @@ pub fn room(screen: Screen, blocks: u32) -> Result<usize, Refusal> {
     if blocks > 2048 {
         return Err(Refusal::Blocks);
     }
-    Ok(8 + 3 * tiles + 32 * blocks as usize)
+    Ok(8 + 4 * tiles + 32 * blocks as usize)
 }
 
 /// A pool in words that the caller lends. Every call audits it first.
@@ -128,7 +132,7 @@ pub struct Pool<'a> {
 }
 
 impl<'a> Pool<'a> {
-    /// Opens a pool: all tiles empty, all blocks free. Words past the room needed stay as they are.
+    /// Opens a pool: all tiles empty, all marks 0, all blocks free. Words past the room needed stay as they are.
     pub fn open(words: &'a mut [u32], screen: Screen, blocks: u32) -> Result<Pool<'a>, Refusal> {
         raw::open(words, screen, blocks).done()?;
         Ok(Pool { words })
@@ -160,7 +164,15 @@ impl<'a> Pool<'a> {
         raw::read(self.words, tile, place).done().map(|[id]| id)
     }
 
-    /// Empties a tile's list and gives its blocks back. The answer is how many they were.
+    /// A tile's mark: the most entries that its list had since the opening.
+    ///
+    /// Where no call since then was refused for room, a pool for the same screen with as many blocks as the marks of all
+    /// tiles need, 31 entries to a block, gives each of these calls the same answer.
+    pub fn high_water(&self, tile: u32) -> Result<u32, Refusal> {
+        raw::high_water(self.words, tile).done().map(|[entries]| entries)
+    }
+
+    /// Empties a tile's list and gives its blocks back; its mark stays. The answer is how many they were.
     pub fn release(&mut self, tile: u32) -> Result<u32, Refusal> {
         raw::release(self.words, tile).done().map(|[blocks]| blocks)
     }

@@ -8,6 +8,7 @@ extern "C" {
     fn flourscoop_open(pool: *mut u32, words: usize, width: u32, height: u32, s: u32, blocks: u32) -> u32;
     fn flourscoop_audit(pool: *const u32, words: usize) -> u32;
     fn flourscoop_read(pool: *const u32, words: usize, tile: u32, place: u32, id: *mut u32) -> u32;
+    fn flourscoop_high_water(pool: *const u32, words: usize, tile: u32, entries: *mut u32) -> u32;
     fn flourscoop_release(pool: *mut u32, words: usize, tile: u32, blocks: *mut u32) -> u32;
 
     fn flourscoop_bin_point(pool: *mut u32, words: usize, id: u32,
@@ -102,6 +103,11 @@ pub fn bin_pixels(pool: &mut [u32], id: u32, shape: Shape<Pixel>) -> Answer<2> {
 /// Reads the id at a place of a tile's list. Value: the id. Numbers: 0, 4, 9, 10.
 pub fn read(pool: &[u32], tile: u32, place: u32) -> Answer<1> {
     answer(|[id]| unsafe { flourscoop_read(pool.as_ptr(), pool.len(), tile, place, id) })
+}
+
+/// The most entries that a tile's list had since the opening. Value: that number. Numbers: 0, 4, 9.
+pub fn high_water(pool: &[u32], tile: u32) -> Answer<1> {
+    answer(|[entries]| unsafe { flourscoop_high_water(pool.as_ptr(), pool.len(), tile, entries) })
 }
 
 /// Empties a tile's list. Value: the blocks given back. Numbers: 0, 4, 9.

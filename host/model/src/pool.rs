@@ -10,7 +10,7 @@ use crate::unit::units;
 use crate::{number, Pixel, Vertex};
 
 pub const HEADER: usize = 8;
-pub const WORDS_OF_TILE: usize = 3;
+pub const WORDS_OF_TILE: usize = 4;
 pub const WORDS_OF_BLOCK: usize = 32;
 pub const IDS_OF_BLOCK: usize = 31;
 pub const MOST_BLOCKS: u32 = 2048;
@@ -27,22 +27,29 @@ pub fn tile_at(tile: u32) -> usize {
     HEADER + WORDS_OF_TILE * tile as usize
 }
 
+/// Where the mark of a tile stands.
+pub fn mark_at(tile: u32) -> usize {
+    tile_at(tile) + 3
+}
+
 /// The words that a pool needs.
 pub fn room(screen: Screen, blocks: u32) -> usize {
     block_at(screen, blocks)
 }
 
-/// A tile: the blocks of its chain and the ids of its list, both in order.
+/// A tile: the blocks of its chain and the ids of its list, both in order, and its mark.
 #[derive(Clone, Default, PartialEq, Eq)]
 pub struct Tile {
     pub blocks: Vec<u32>,
     pub ids: Vec<u32>,
+    /// the most entries that the list had since the opening
+    pub mark: u32,
 }
 
 impl fmt::Debug for Tile {
     fn fmt(&self, f: &mut fmt::Formatter) -> fmt::Result {
-        let Tile { blocks, ids } = self;
-        f.debug_struct("Tile").field("blocks", &Runs(blocks)).field("ids", &Runs(ids)).finish()
+        let Tile { blocks, ids, mark } = self;
+        f.debug_struct("Tile").field("blocks", &Runs(blocks)).field("ids", &Runs(ids)).field("mark", mark).finish()
     }
 }
 
@@ -59,7 +66,7 @@ pub struct State {
 impl fmt::Debug for State {
     fn fmt(&self, f: &mut fmt::Formatter) -> fmt::Result {
         let free: Vec<u32> = self.free.iter().copied().collect();
-        // an empty tile is not shown
+        // a tile that never had an entry is not shown
         let tiles: BTreeMap<usize, &Tile> =
             self.tiles.iter().enumerate().filter(|(_, tile)| **tile != Tile::default()).collect();
         let mut state = f.debug_struct("State");
@@ -89,6 +96,8 @@ pub enum Fault {
     Id,
     /// another id place does not hold poison
     Poison,
+    /// a mark is below the entries of its tile, or above what all blocks hold
+    Mark,
 }
 
 /// The link that names a block, or none.
@@ -120,7 +129,7 @@ fn places(words: &[u32], screen: Screen, chain: impl IntoIterator<Item = u32>) -
     chain.into_iter().flat_map(ids).copied().collect()
 }
 
-/// The tile that three words of the table say.
+/// The tile that four words of the table say.
 fn read_tile(words: &[u32], screen: Screen, blocks: u32, tile: u32) -> Result<Tile, Fault> {
     let at = tile_at(tile);
     let entries = words[at] as usize;
@@ -139,7 +148,11 @@ fn read_tile(words: &[u32], screen: Screen, blocks: u32, tile: u32) -> Result<Ti
     if rest.iter().any(|&word| word != POISON) {
         return Err(Fault::Poison);
     }
-    Ok(Tile { blocks: chain, ids: ids.to_vec() })
+    let mark = words[mark_at(tile)];
+    if !(entries..=IDS_OF_BLOCK * blocks as usize).contains(&(mark as usize)) {
+        return Err(Fault::Mark);
+    }
+    Ok(Tile { blocks: chain, ids: ids.to_vec(), mark })
 }
 
 impl State {
@@ -173,7 +186,7 @@ impl State {
         let mut words = vec![width, height, s, self.blocks, self.free.len() as u32, link(self.free.front())];
         words.extend([HEADER as u32, block_at(self.screen, 0) as u32]);
         for tile in &self.tiles {
-            words.extend([tile.ids.len() as u32, link(tile.blocks.first()), link(tile.blocks.last())]);
+            words.extend([tile.ids.len() as u32, link(tile.blocks.first()), link(tile.blocks.last()), tile.mark]);
         }
         words.resize(room(self.screen, self.blocks), POISON);
         let free: Vec<u32> = self.free.iter().copied().collect();
@@ -244,6 +257,7 @@ impl State {
                 tile.blocks.extend(self.free.pop_front());
             }
             tile.ids.push(id);
+            tile.mark = tile.mark.max(tile.ids.len() as u32);
         }
         Ok([touched.len() as u32, need as u32])
     }
@@ -262,10 +276,16 @@ impl State {
         tile.ids.get(place as usize).copied().ok_or(number::NO_PLACE)
     }
 
-    /// The blocks that a tile gives back, each made the new head of the free chain.
+    /// The mark of a tile.
+    pub fn high_water(&self, tile: u32) -> Result<u32, u32> {
+        self.tiles.get(tile as usize).map(|tile| tile.mark).ok_or(number::NO_TILE)
+    }
+
+    /// The blocks that a tile gives back, each made the new head of the free chain. The tile keeps its mark.
     pub fn release(&mut self, tile: u32) -> Result<u32, u32> {
         let tile = self.tiles.get_mut(tile as usize).ok_or(number::NO_TILE)?;
-        let Tile { blocks, .. } = std::mem::take(tile);
+        tile.ids.clear();
+        let blocks = std::mem::take(&mut tile.blocks);
         for &block in &blocks {
             self.free.push_front(block);
         }

@@ -1,4 +1,4 @@
-//! The model gives what document 01 and request P2 list.
+//! The model gives what document 01 and requests P2 and P8 list.
 
 use model::marked::{Cut, Marked, CUT, MARKED, SCREEN};
 use model::number;
@@ -41,20 +41,23 @@ fn units_of_the_table() {
 
 #[test]
 fn pool_case() {
-    let mut pool = State::open(96, SCREEN, 2).unwrap();
-    let opened = pool.words();
-    assert_eq!(opened[..8], [64, 32, 4, 2, 2, 1, 8, 32]);
-    assert_eq!(opened[8..32], [0; 24]);
-    assert_eq!((opened.len(), opened[32], opened[63], opened[95]), (96, POISON, 2, 0));
+    let mut pool = State::open(104, SCREEN, 2).unwrap();
+    let mut opened = pool.words();
+    assert_eq!(opened[..8], [64, 32, 4, 2, 2, 1, 8, 40]);
+    assert_eq!(opened[8..40], [0; 32]);
+    assert_eq!((opened.len(), opened[40], opened[71], opened[103]), (104, POISON, 2, 0));
 
     assert_eq!(pool.bin(7, &[[0, 0]]), Ok([1, 1]));
     let binned = pool.words();
-    assert_eq!((binned[4], binned[5], &binned[8..11], binned[32]), (1, 2, &[1, 1, 1][..], 7));
+    assert_eq!((binned[4], binned[5], &binned[8..12], binned[40]), (1, 2, &[1, 1, 1, 1][..], 7));
     assert_eq!(pool.bin(9, &[[256, 256]]), Err(number::NO_ROOM));
     assert_eq!(pool.words(), binned);
     assert_eq!(State::read(&binned), Ok(pool.clone()));
 
     assert_eq!(pool.release(0), Ok(1));
+    assert_eq!([0, 1, 8].map(|tile| pool.high_water(tile)), [Ok(1), Ok(0), Err(number::NO_TILE)]);
+    // the mark of tile 0
+    opened[11] = 1;
     assert_eq!(pool.words(), opened);
 }
 
@@ -63,6 +66,6 @@ fn open_refuses_in_order() {
     let wide = Screen { width: 4096, height: 4096, s: 5 };
     assert_eq!(State::open(0, wide, 2049), Err(number::SCREEN));
     assert_eq!(State::open(0, SCREEN, 2049), Err(number::BLOCKS));
-    assert_eq!(State::open(95, SCREEN, 2), Err(number::SHORT));
-    assert!(State::open(12_296 + 65_536, Screen { s: 6, ..wide }, 2048).is_ok());
+    assert_eq!(State::open(103, SCREEN, 2), Err(number::SHORT));
+    assert!(State::open(16_392 + 65_536, Screen { s: 6, ..wide }, 2048).is_ok());
 }

@@ -19,6 +19,7 @@ pub enum Call {
     Bin { id: u32, shape: Vec<Vertex> },
     BinPixels { id: u32, shape: Vec<Pixel> },
     Read { tile: u32, place: u32 },
+    HighWater { tile: u32 },
     Release { tile: u32 },
 }
 
@@ -46,7 +47,7 @@ impl Call {
     pub fn make(random: &Random, screen: Screen) -> Call {
         let tile = generate::tile(random, screen);
         let other = random.pick(&[tile, tile, tile, tile, tile, tile, screen.tiles(), u32::MAX]);
-        match random.below(20) {
+        match random.below(21) {
             0..=7 => Call::Bin { id: generate::id(random), shape: shape(random, screen, tile) },
             8..=11 => {
                 let shape = shape(random, screen, tile);
@@ -57,7 +58,8 @@ impl Call {
                 Call::Read { tile: other, place }
             }
             15..=17 => Call::Release { tile: other },
-            18 => Call::Audit,
+            18 => Call::HighWater { tile: other },
+            19 => Call::Audit,
             _ => random
                 .pick(&[
                     (screen, Blocks::Own),
@@ -69,6 +71,18 @@ impl Call {
                 ])
                 .into(),
         }
+    }
+
+    /// One of each call that takes a pool, but for the opening.
+    pub fn each_on_a_pool() -> [Call; 6] {
+        [
+            Call::Audit,
+            Call::Bin { id: 8, shape: vec![[1, 1]] },
+            Call::BinPixels { id: 8, shape: vec![[0, 0]] },
+            Call::Read { tile: 0, place: 0 },
+            Call::HighWater { tile: 0 },
+            Call::Release { tile: 0 },
+        ]
     }
 
     /// Reads of the longest list: in its middle, at its last place and past it.
@@ -98,8 +112,36 @@ impl Call {
                 let units = model::unit::units(shape);
                 units.into_iter().map(|shape| Call::Bin { id: *id, shape }).collect()
             }
-            _ => Vec::new(),
+            &Call::Read { tile, place } => {
+                let tiles = smaller::lower(tile).into_iter().map(|tile| Call::Read { tile, place });
+                tiles.chain(smaller::lower(place).into_iter().map(|place| Call::Read { tile, place })).collect()
+            }
+            &Call::HighWater { tile } => {
+                smaller::lower(tile).into_iter().map(|tile| Call::HighWater { tile }).collect()
+            }
+            &Call::Release { tile } => smaller::lower(tile).into_iter().map(|tile| Call::Release { tile }).collect(),
+            Call::Open { .. } | Call::Audit => Vec::new(),
         }
+    }
+}
+
+/// A call, made so many times.
+#[derive(Clone, Debug)]
+pub struct Repeated(pub u32, pub Call);
+
+impl Repeated {
+    /// Every call of a list, one after the other.
+    pub fn each(calls: &[Repeated]) -> impl Iterator<Item = &Call> {
+        calls.iter().flat_map(|Repeated(times, call)| std::iter::repeat_n(call, *times as usize))
+    }
+
+    /// Fewer times, or a smaller call.
+    pub fn smaller(&self) -> Vec<Repeated> {
+        let Repeated(times, call) = self;
+        let fewer = [1, times / 2, times - 1].into_iter().filter(|fewer| (1..*times).contains(fewer));
+        let mut all: Vec<_> = fewer.map(|fewer| Repeated(fewer, call.clone())).collect();
+        all.extend(call.smaller().into_iter().map(|call| Repeated(*times, call)));
+        all
     }
 }
 
@@ -187,7 +229,8 @@ impl Slot {
         Slot { state: State::read(&words).ok(), expected: words.clone(), blocks, words }
     }
 
-    fn on_archive(&mut self, call: &Call) -> Outcome {
+    /// Makes the call on the archive alone, and compares nothing.
+    pub fn on_archive(&mut self, call: &Call) -> Outcome {
         let words = &mut self.words[..];
         match call {
             &Call::Open { screen, blocks } => outcome(raw::open(words, screen_of(screen), blocks.count(self.blocks))),
@@ -195,6 +238,7 @@ impl Slot {
             Call::Bin { id, shape } => outcome(raw::bin(words, *id, shape_of(shape))),
             Call::BinPixels { id, shape } => outcome(raw::bin_pixels(words, *id, pixels_of(shape))),
             &Call::Read { tile, place } => outcome(raw::read(words, tile, place)),
+            &Call::HighWater { tile } => outcome(raw::high_water(words, tile)),
             &Call::Release { tile } => outcome(raw::release(words, tile)),
         }
     }
@@ -216,6 +260,7 @@ impl Slot {
             Call::Bin { id, shape } => expected(state.bin(*id, shape)),
             Call::BinPixels { id, shape } => expected(state.bin_pixels(*id, shape)),
             &Call::Read { tile, place } => expected(state.id_at(tile, place).map(|id| [id])),
+            &Call::HighWater { tile } => expected(state.high_water(tile).map(|mark| [mark])),
             &Call::Release { tile } => expected(state.release(tile).map(|blocks| [blocks])),
         }
     }

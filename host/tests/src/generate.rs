@@ -221,6 +221,12 @@ pub fn id(random: &Random) -> u32 {
     }
 }
 
+/// A mark of a tile with so many entries, in a pool of so many blocks: the entries, the most that there can be, or between.
+fn mark(random: &Random, entries: usize, blocks: u32) -> u32 {
+    let (least, most) = (entries as u32, IDS_OF_BLOCK as u32 * blocks);
+    random.pick(&[least, least, most, least + random.below(most - least + 1)])
+}
+
 /// The state of a sound pool, its blocks in any order: most have chains of up to three blocks, one in a hundred has longer
 /// ones, and one in four thousand is as large as a pool can be.
 pub fn state(random: &Random) -> State {
@@ -233,14 +239,15 @@ pub fn state(random: &Random) -> State {
     random.shuffle(state.free.make_contiguous());
     for tile in &mut state.tiles {
         let chain = random.pick(&[0, 0, 1, 1, 2, 1 + random.below(long)]) as usize;
-        if chain == 0 || chain > state.free.len() {
-            continue;
-        }
-        let full = IDS_OF_BLOCK * chain;
-        let entries = full - random.pick(&[0, 1, 29, 30, random.below(31) as usize]);
+        let chain = if chain > state.free.len() { 0 } else { chain };
+        let entries = match chain {
+            0 => 0,
+            _ => IDS_OF_BLOCK * chain - random.pick(&[0, 1, 29, 30, random.below(31) as usize]),
+        };
         *tile = Tile {
             blocks: state.free.drain(..chain).collect(),
             ids: (0..entries).map(|_| random.pick(&[0, MOST_ID, random.below(MOST_ID)])).collect(),
+            mark: mark(random, entries, blocks),
         };
     }
     state

@@ -1,8 +1,10 @@
-//! What the tests share: fixed seeds, cases, the smallest failing case, and the calls on the archive and on the model.
+//! What the tests share: fixed seeds, cases, the smallest failing case, the calls on the archive and on the model, and the
+//! greatest length that each list had.
 
 pub mod call;
 pub mod generate;
 pub mod hold;
+pub mod lengths;
 pub mod random;
 pub mod smaller;
 pub mod square;

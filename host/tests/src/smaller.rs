@@ -12,6 +12,14 @@ fn nearer_zero(number: i32) -> Vec<i32> {
     nearer
 }
 
+/// The numbers that lie a step below `number`.
+pub fn lower(number: u32) -> Vec<u32> {
+    let mut lower = vec![0, number / 2, number.saturating_sub(1)];
+    lower.retain(|&other| other < number);
+    lower.dedup();
+    lower
+}
+
 /// `items` with one of them replaced by each of the `smaller` ones of it.
 pub fn each<T: Clone>(items: &[T], smaller: impl Fn(&T) -> Vec<T>) -> Vec<Vec<T>> {
     let replaced = |place: usize, by: T| {
@@ -56,32 +64,38 @@ pub fn shapes(shape: &[Vertex]) -> Vec<Vec<Vertex>> {
     all
 }
 
-/// States of a pool of the same size with fewer lists, shorter ones, or plainer numbers; of a large pool, only the boldest.
+/// States of a pool of the same size with fewer lists and marks, shorter ones, or plainer numbers; of a large pool, only the
+/// boldest.
 pub fn states(state: &State) -> Vec<State> {
-    let full: Vec<usize> = (0..state.tiles.len()).filter(|&tile| !state.tiles[tile].ids.is_empty()).collect();
+    let used: Vec<usize> = (0..state.tiles.len()).filter(|&tile| state.tiles[tile] != Tile::default()).collect();
     let mut all = vec![State::opened(state.screen, state.blocks)];
     let mut in_order = state.clone();
     in_order.free.make_contiguous().sort_unstable();
     all.push(in_order);
-    for kept in fewer(&full).into_iter().take(40) {
+    for kept in fewer(&used).into_iter().take(40) {
         let mut emptier = state.clone();
-        for &tile in full.iter().filter(|tile| !kept.contains(tile)) {
+        for &tile in used.iter().filter(|tile| !kept.contains(tile)) {
             emptier.free.extend(std::mem::take(&mut emptier.tiles[tile]).blocks);
         }
         all.push(emptier);
     }
-    for &tile in full.iter().take(10) {
-        let Tile { blocks, ids } = &state.tiles[tile];
+    for &tile in used.iter().take(10) {
+        let Tile { blocks, ids, mark } = &state.tiles[tile];
         let half = blocks.len() / 2;
         if half > 0 {
             let mut shorter = state.clone();
-            shorter.tiles[tile] = Tile { blocks: blocks[..half].to_vec(), ids: ids[..half * IDS_OF_BLOCK].to_vec() };
-            shorter.free.extend(&blocks[half..]);
+            let (blocks, rest) = blocks.split_at(half);
+            shorter.tiles[tile] =
+                Tile { blocks: blocks.to_vec(), ids: ids[..half * IDS_OF_BLOCK].to_vec(), mark: *mark };
+            shorter.free.extend(rest);
             all.push(shorter);
         }
         let mut plainer = state.clone();
         plainer.tiles[tile].ids.fill(0);
         all.push(plainer);
+        let mut unmarked = state.clone();
+        unmarked.tiles[tile].mark = ids.len() as u32;
+        all.push(unmarked);
     }
     all.retain(|other| other != state);
     all
@@ -92,8 +106,7 @@ pub fn pools(state: &State) -> Vec<State> {
     if *state != State::opened(state.screen, state.blocks) {
         return Vec::new();
     }
-    let fewer = [0, state.blocks / 2, state.blocks.saturating_sub(1)];
-    let fewer = fewer.into_iter().filter(|&blocks| blocks < state.blocks);
+    let fewer = lower(state.blocks).into_iter();
     let mut all: Vec<_> = fewer.map(|blocks| State::opened(state.screen, blocks)).collect();
     all.extend(screens(state.screen).into_iter().map(|screen| State::opened(screen, state.blocks)));
     all

@@ -1,8 +1,14 @@
-//! Sound pools with one to three words changed: the audit against the sentences on soundness, and calls on them.
+//! Sound pools with one to three words changed: the audit against the sentences on soundness, and calls on them. The ends of a
+//! mark's range, and pools in the layout of three words a tile.
 
 use std::collections::BTreeMap;
 
-use model::pool::{block_at, room, tile_at, State, IDS_OF_BLOCK, MOST_ID, POISON};
+use model::marked::SCREEN;
+use model::number;
+use model::pool::{
+    block_at, mark_at, room, tile_at, State, HEADER, IDS_OF_BLOCK, MOST_BLOCKS, MOST_ID, POISON, WORDS_OF_TILE,
+};
+use model::screen::Screen;
 use tests::call::{Call, Slot};
 use tests::generate;
 use tests::hold::{hold, Case};
@@ -30,7 +36,7 @@ fn place(random: &Random, state: &State, words: &[u32]) -> usize {
     let at_end = chain.blocks.last().map_or(any, |&last| block_at(state.screen, last) + end);
     let place = match random.below(8) {
         0 => random.below(8) as usize,
-        1 | 2 => tile_at(tile) + random.below(3) as usize,
+        1 | 2 => tile_at(tile) + random.below(WORDS_OF_TILE as u32) as usize,
         3 | 4 => block_at(state.screen, block) + IDS_OF_BLOCK,
         5 => at_end,
         _ => any,
@@ -42,13 +48,15 @@ fn place(random: &Random, state: &State, words: &[u32]) -> usize {
 fn value(random: &Random, state: &State, words: &[u32], place: usize) -> u32 {
     let other = words[random.below(words.len() as u32) as usize];
     let link = random.below(state.blocks + 2);
-    match random.below(8) {
+    let most_entries = IDS_OF_BLOCK as u32 * state.blocks;
+    match random.below(9) {
         0 => words[place].wrapping_add(1),
         1 => words[place].wrapping_sub(1),
         2 => other,
         3 | 4 => link,
         5 => random.pick(&[0, 1, 31, 32, POISON, MOST_ID, MOST_ID + 1, u32::MAX]),
         6 => random.below(MOST_ID),
+        7 => random.pick(&[most_entries, most_entries + 1]),
         _ => random.word() as u32,
     }
 }
@@ -58,12 +66,12 @@ fn value(random: &Random, state: &State, words: &[u32], place: usize) -> u32 {
 fn amiss_as_a_whole(random: &Random, state: &State, words: &[u32]) -> Vec<(usize, u32)> {
     let [from, to] = [0; 2].map(|_| tile_at(generate::tile(random, state.screen)));
     match random.below(3) {
-        0 => (0..3).map(|word| (to + word, words[from + word])).collect(),
+        0 => (0..WORDS_OF_TILE).map(|word| (to + word, words[from + word])).collect(),
         1 if words[5] != 0 => {
             let after = block_at(state.screen, words[5] - 1) + IDS_OF_BLOCK;
             vec![(4, words[4] - 1), (5, words[after])]
         }
-        _ => (0..3).map(|word| (to + word, 0)).collect(),
+        _ => (0..WORDS_OF_TILE).map(|word| (to + word, 0)).collect(),
     }
 }
 
@@ -159,8 +167,85 @@ fn the_audit_says_yes_exactly_for_sound_pools() {
     println!("sound still, or the first fault found: {verdicts:?}");
     println!("the longest chain has {chain} blocks; {largest} pools have 4,096 tiles and 2,048 blocks");
     println!("{cut} pools are for screens cut on both axes");
-    assert_eq!(verdicts.len(), 10, "each sentence should be broken, and some pools be sound still");
+    assert_eq!(verdicts.len(), 11, "each sentence should be broken, and some pools be sound still");
     assert!(verdicts.values().all(|&pools| pools > 500), "each often");
     assert!(chain > 40 && largest > 20, "long chains and largest pools should be there");
     assert!(cut > 50_000, "screens that are cut on both axes should be common");
+}
+
+/// Each call on these words is refused with 4, and every word stays.
+fn expect_unsound(words: &[u32], what: &str) {
+    let mut slot = Slot::over(words.to_vec(), 0);
+    for call in Call::each_on_a_pool() {
+        assert_eq!(slot.call(&call), Ok([number::UNSOUND, 0, 0]), "{call:?} on {what}");
+    }
+    assert_eq!(slot.words, words, "{what}");
+}
+
+/// The audit says yes to these words, and the mark of tile 0 is told before and after a release.
+fn expect_sound(words: &[u32], what: &str) {
+    let (entries, mark) = (words[tile_at(0)], words[mark_at(0)]);
+    let mut slot = Slot::over(words.to_vec(), 0);
+    let mut expect = |call, value| assert_eq!(slot.call(&call), Ok([number::DONE, value, 0]), "{call:?} on {what}");
+    expect(Call::Audit, 0);
+    expect(Call::HighWater { tile: 0 }, mark);
+    expect(Call::Release { tile: 0 }, entries.div_ceil(31));
+    expect(Call::HighWater { tile: 0 }, mark);
+}
+
+/// A pool in which tile 0 has so many entries.
+fn with_entries(screen: Screen, blocks: u32, entries: u32) -> State {
+    let mut state = State::opened(screen, blocks);
+    for id in 0..entries {
+        assert_eq!(state.bin(id, &[[1, 1]]).map(|[tiles, _]| tiles), Ok(1));
+    }
+    state
+}
+
+#[test]
+fn a_mark_is_at_least_the_entries_and_at_most_what_all_blocks_hold() {
+    let small = [(0, 0), (1, 0), (1, 1), (1, 31), (2, 0), (2, 1), (2, 31), (2, 32), (2, 62)];
+    for (blocks, entries) in small.into_iter().chain([(MOST_BLOCKS, 0), (MOST_BLOCKS, 63)]) {
+        let most = 31 * blocks;
+        let with_mark = |mark: u32| {
+            let mut words = with_entries(SCREEN, blocks, entries).words();
+            words[mark_at(0)] = mark;
+            (words, format!("{entries} entries and the mark {mark} of {blocks} blocks"))
+        };
+        for (words, what) in [entries, (entries + most) / 2, most].map(with_mark) {
+            expect_sound(&words, &what);
+        }
+        for (words, what) in [entries.wrapping_sub(1), most + 1, 1 << 16, u32::MAX].map(with_mark) {
+            expect_unsound(&words, &what);
+        }
+    }
+}
+
+/// The words of a pool in the layout of three words a tile, which has no marks.
+fn three_words_a_tile(state: &State) -> Vec<u32> {
+    let words = state.words();
+    let (tiles, blocks) = words[HEADER..].split_at(WORDS_OF_TILE * state.tiles.len());
+    let without_marks = tiles.chunks(WORDS_OF_TILE).flat_map(|tile| &tile[..3]);
+    let header = words[..7].iter().copied().chain([8 + 3 * state.screen.tiles()]);
+    header.chain(without_marks.chain(blocks).copied()).collect()
+}
+
+#[test]
+fn a_pool_of_three_words_a_tile_is_refused() {
+    let one_tile = Screen { width: 1, height: 1, s: 3 };
+    let most_tiles = Screen { width: 512, height: 512, s: 3 };
+    for (screen, blocks) in [(SCREEN, 0), (SCREEN, 2), (SCREEN, 40), (one_tile, 0), (one_tile, 3), (most_tiles, 2048)] {
+        for entries in [0, 1, 31, 32].into_iter().filter(|entries: &u32| entries.div_ceil(31) <= blocks) {
+            let words = three_words_a_tile(&with_entries(screen, blocks, entries));
+            let what = format!("{screen:?} with {blocks} blocks and {entries} entries");
+            assert_eq!(words.len(), (8 + 3 * screen.tiles() + 32 * blocks) as usize, "{what}");
+            expect_unsound(&words, &what);
+            // it is not the length that is refused
+            for past in [0, POISON] {
+                let mut longer = words.clone();
+                longer.resize(room(screen, blocks), past);
+                expect_unsound(&longer, &what);
+            }
+        }
+    }
 }

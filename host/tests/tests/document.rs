@@ -1,4 +1,4 @@
-//! What document 01 and request P2 list, by the wrapper.
+//! What document 01 and requests P2 and P8 list, by the wrapper.
 
 use flourscoop::{box_touches, corner_touches, room, unit, Binned, Pixel, Pool, Refusal, Shape, Vertex};
 use model::marked::{Cut, Marked, CUT, MARKED, SCREEN};
@@ -46,24 +46,31 @@ fn the_box_of_a_negative_point_gains_no_tile() {
 #[test]
 fn pool_case() {
     let screen = screen_of(SCREEN);
-    assert_eq!(room(screen, 2), Ok(96));
-    let mut words = [0; 96];
+    assert_eq!(room(screen, 2), Ok(104));
+    let mut words = [0; 104];
     let mut pool = Pool::open(&mut words, screen, 2).unwrap();
-    assert_eq!(pool.words()[..8], [64, 32, 4, 2, 2, 1, 8, 32]);
+    assert_eq!(pool.words()[..8], [64, 32, 4, 2, 2, 1, 8, 40]);
     let opened = pool.words().to_vec();
+    assert_eq!(pool.high_water(0), Ok(0));
 
     assert_eq!(pool.bin(7, point(0, 0)), Ok(Binned { tiles: 1, blocks: 1 }));
     assert_eq!(pool.words()[4..6], [1, 2]);
+    assert_eq!(pool.words()[8..12], [1, 1, 1, 1]);
     let binned = pool.words().to_vec();
     assert_eq!(pool.bin(9, point(256, 256)), Err(Refusal::NoRoom));
     assert_eq!(pool.words(), binned);
     assert_eq!(pool.read(0, 0), Ok(7));
     assert_eq!(pool.read(0, 1), Err(Refusal::NoPlace));
     assert_eq!(pool.read(8, 0), Err(Refusal::NoTile));
+    assert_eq!([0, 1, 7, 8].map(|tile| pool.high_water(tile)), [Ok(1), Ok(0), Ok(0), Err(Refusal::NoTile)]);
 
+    // every word is as opened, but for the mark of tile 0
     assert_eq!(pool.release(0), Ok(1));
-    assert_eq!(pool.words(), opened);
+    let changed: Vec<usize> = (0..104).filter(|&at| pool.words()[at] != opened[at]).collect();
+    assert_eq!((changed, pool.words()[11]), (vec![11], 1));
+    assert_eq!(pool.high_water(0), Ok(1));
     assert_eq!(pool.release(0), Ok(0));
+    assert_eq!(pool.high_water(0), Ok(1));
     assert!(pool.is_sound());
 }
 

@@ -1,6 +1,8 @@
-//! The C header says what the wrapper and the model say: numbers, texts and version.
+//! The C header says what the wrapper and the model say: numbers, texts, version and the words of its example.
 
 use flourscoop::Refusal;
+use model::marked::SCREEN;
+use model::pool::{State, POISON};
 
 const HEADER: &str = include_str!("../../include/flourscoop.h");
 
@@ -42,4 +44,34 @@ fn the_version_is_the_crates() {
     assert_eq!(defined("FLOURSCOOP_VERSION"), format!("{:?}", env!("CARGO_PKG_VERSION")));
     let parts = ["MAJOR", "MINOR", "PATCH"].map(|part| defined(&format!("FLOURSCOOP_VERSION_{part}")));
     assert_eq!(parts.join("."), env!("CARGO_PKG_VERSION"));
+}
+
+/// The words of the header's example: each line has its first and last word, and what they are.
+fn example() -> Vec<u32> {
+    let number = |text: &str| text.parse::<usize>().unwrap();
+    let mut words: Vec<u32> = Vec::new();
+    for line in HEADER.lines().filter_map(|line| line.strip_prefix(" *     word ")) {
+        let Some((Ok(first), rest)) = line.split_once(" to ").map(|(first, rest)| (first.trim().parse(), rest)) else {
+            continue;
+        };
+        let (last, rest) = rest.trim_start().split_once("   ").unwrap();
+        let (said, _) = rest.split_once("  ").unwrap();
+        assert_eq!(words.len(), first, "{line}");
+        for part in said.split(", ") {
+            match (part.strip_suffix(" times poison"), part) {
+                (Some(times), _) => words.extend(vec![POISON; number(times)]),
+                (_, "each") => words.resize(number(last) + 1, *words.last().unwrap()),
+                _ => words.extend(part.split(' ').map(|word| number(word) as u32)),
+            }
+        }
+        assert_eq!(words.len(), number(last) + 1, "{line}");
+    }
+    words
+}
+
+#[test]
+fn the_example_is_the_model_s() {
+    let mut pool = State::opened(SCREEN, 2);
+    pool.bin(7, &[[0, 0]]).unwrap();
+    assert_eq!(example(), pool.words());
 }

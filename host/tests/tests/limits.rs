@@ -1,5 +1,5 @@
 //! Every limit from both sides, on the archive and on the model: 4,096 tiles, the end of the screen, 2,048 blocks, chains
-//! up to the longest, and slices as long as the room and a word less.
+//! and marks up to the longest, and slices as long as the room and a word less.
 
 use flourscoop::{raw, Refusal};
 use model::number;
@@ -88,7 +88,7 @@ fn a_screen_has_4096_tiles_and_no_more() {
         }
     }
     // 4,095 and 4,097 tiles
-    let mut slot = unopened(8 + 3 * 4097);
+    let mut slot = unopened(8 + 4 * 4097);
     for s in 3..=4 {
         for [columns, rows] in [[63, 65], [65, 63]] {
             expect(&mut slot, open(screen_with([columns, rows, s], [0, 0]), 0), alone(number::DONE));
@@ -196,13 +196,7 @@ fn a_slice_is_as_long_as_the_room_or_longer() {
         let mut pool = opened(screen, blocks);
         expect(&mut pool, bin_at(screen, 0, 7), if blocks == 0 { alone(number::NO_ROOM) } else { [0, 1, 1] });
         let mut cut = Slot::over(pool.words[..words - 1].to_vec(), blocks);
-        for call in [
-            Call::Audit,
-            bin_at(screen, 0, 8),
-            Call::BinPixels { id: 8, shape: vec![[0, 0]] },
-            Call::Read { tile: 0, place: 0 },
-            Call::Release { tile: 0 },
-        ] {
+        for call in Call::each_on_a_pool() {
             expect(&mut cut, call, alone(number::UNSOUND));
         }
     }
@@ -231,6 +225,10 @@ fn a_shape_takes_2048_blocks_and_no_more() {
         expect(&mut slot, Call::Release { tile: 4096 }, alone(number::NO_TILE));
         expect(&mut slot, Call::Release { tile: 4095 }, [0, 0, 0]);
         expect(&mut slot, Call::Release { tile: 2047 }, [0, 1, 0]);
+        for (tile, mark) in [(0, 2), (2047, 2), (2048, 0), (4095, 0)] {
+            expect(&mut slot, Call::HighWater { tile }, [0, mark, 0]);
+        }
+        expect(&mut slot, Call::HighWater { tile: 4096 }, alone(number::NO_TILE));
         expect(&mut slot, bin_at(screen, 4095, 3), [0, 1, 1]);
         expect(&mut slot, Call::Read { tile: 4095, place: 0 }, [0, 3, 0]);
     }
@@ -260,23 +258,50 @@ fn chains_of_1_to_70_blocks_are_read_at_both_ends_of_each_block() {
                 expect(&mut slot, Call::Read { tile, place }, [0, id(tile, place), 0]);
             }
             expect(&mut slot, Call::Read { tile, place: last + 1 }, alone(number::NO_PLACE));
+            expect(&mut slot, Call::HighWater { tile }, [0, last + 1, 0]);
         }
     }
     expect(&mut slot, bin_at(screen, 0, 0), alone(number::NO_ROOM));
     for tile in 0..2 {
         expect(&mut slot, Call::Release { tile }, [0, CHAIN, 0]);
+        expect(&mut slot, Call::HighWater { tile }, [0, CHAIN * IDS, 0]);
     }
+}
+
+/// A tile is filled and released again and again; its mark is asked for after every call.
+#[test]
+fn a_mark_rises_only_past_itself_and_no_release_lowers_it() {
+    let mut slot = opened(ONE_TILE, 3);
+    let mut mark = 0;
+    for entries in [0, 3, 2, 3, 4, 0, 1, 31, 30, 32, 31, 93, 92, 1] {
+        for place in 0..entries {
+            expect(&mut slot, bin_at(ONE_TILE, 0, place), [0, 1, u32::from(place % IDS == 0)]);
+            mark = mark.max(place + 1);
+            expect(&mut slot, Call::HighWater { tile: 0 }, [0, mark, 0]);
+        }
+        if entries == 93 {
+            expect(&mut slot, bin_at(ONE_TILE, 0, 93), alone(number::NO_ROOM));
+        }
+        expect(&mut slot, Call::Release { tile: 0 }, [0, entries.div_ceil(IDS), 0]);
+        expect(&mut slot, Call::HighWater { tile: 0 }, [0, mark, 0]);
+    }
+    assert_eq!(mark, 93);
+    expect(&mut slot, open(ONE_TILE, 3), alone(number::DONE));
+    expect(&mut slot, Call::HighWater { tile: 0 }, [0, 0, 0]);
 }
 
 #[test]
 fn the_longest_chain_has_2048_blocks() {
     let full = MOST_BLOCKS * IDS;
     let mut state = State::opened(ONE_TILE, MOST_BLOCKS);
-    state.tiles[0] = Tile { blocks: state.free.drain(..).rev().collect(), ids: (0..full - 1).collect() };
+    state.tiles[0] =
+        Tile { blocks: state.free.drain(..).rev().collect(), ids: (0..full - 1).collect(), mark: full - 1 };
     let mut slot = Slot::over(state.words(), MOST_BLOCKS);
     expect(&mut slot, Call::Audit, alone(number::DONE));
     expect(&mut slot, Call::Read { tile: 0, place: full - 1 }, alone(number::NO_PLACE));
+    expect(&mut slot, Call::HighWater { tile: 0 }, [0, full - 1, 0]);
     expect(&mut slot, bin_at(ONE_TILE, 0, full - 1), [0, 1, 0]);
+    expect(&mut slot, Call::HighWater { tile: 0 }, [0, full, 0]);
     // the ends of every fiftieth block, and of the last two
     let looked_at = |place: u32| place / IDS % 50 == 0 || place / IDS >= MOST_BLOCKS - 2;
     for place in (0..full).filter(|&place| ends_a_block(place) && looked_at(place)) {
@@ -286,6 +311,7 @@ fn the_longest_chain_has_2048_blocks() {
     expect(&mut slot, bin_at(ONE_TILE, 0, full), alone(number::NO_ROOM));
     expect(&mut slot, Call::Release { tile: 0 }, [0, MOST_BLOCKS, 0]);
     expect(&mut slot, bin_at(ONE_TILE, 0, 0), [0, 1, 1]);
+    expect(&mut slot, Call::HighWater { tile: 0 }, [0, full, 0]);
 }
 
 #[test]
@@ -296,7 +322,7 @@ fn the_wrapper_s_room_is_what_open_needs() {
     let screens = extents
         .iter()
         .flat_map(|&width| extents.iter().flat_map(move |&height| exponents.map(|s| Screen { width, height, s })));
-    let mut words = vec![0; 8 + 3 * 4096 + 32 * 2048];
+    let mut words = vec![0; 8 + 4 * 4096 + 32 * 2048];
     let mut accepted = 0;
     for (screen, blocks) in screens.flat_map(|screen| [0, 1, 2047, 2048, 2049, u32::MAX].map(|blocks| (screen, blocks)))
     {

@@ -1,11 +1,13 @@
-//! Mixed calls on two pools of different sizes: every answer and every word against the model, and demand 3.
+//! Mixed calls on two pools of different sizes: every answer and every word against the model, every mark against the lengths
+//! that its list had, and demand 3.
 
 use model::number;
-use model::pool::{block_at, room, State, IDS_OF_BLOCK, POISON};
+use model::pool::{block_at, mark_at, room, State, IDS_OF_BLOCK, POISON};
 use model::screen::Screen;
-use tests::call::{Blocks, Call, Outcome, Slot};
+use tests::call::{Blocks, Call, Outcome, Repeated, Slot};
 use tests::generate::{self, cut_screens, rarest_cut};
 use tests::hold::{hold, Case};
+use tests::lengths::Watched;
 use tests::random::Random;
 use tests::smaller::{self, fewer};
 use tests::square::{cut_both_ways, squares_touched};
@@ -18,20 +20,6 @@ struct Sequence {
     /// words past the room that each pool needs
     tails: [usize; 2],
     calls: Vec<Repeated>,
-}
-
-/// A call, made so many times.
-#[derive(Clone, Debug)]
-struct Repeated(u32, Call);
-
-impl Repeated {
-    fn smaller(&self) -> Vec<Repeated> {
-        let Repeated(times, call) = self;
-        let fewer = [1, times / 2, times - 1].into_iter().filter(|fewer| (1..*times).contains(fewer));
-        let mut all: Vec<_> = fewer.map(|fewer| Repeated(fewer, call.clone())).collect();
-        all.extend(call.smaller().into_iter().map(|call| Repeated(*times, call)));
-        all
-    }
 }
 
 /// How large a sequence is: the screen, the blocks of both pools, and how often a call may be repeated.
@@ -68,7 +56,7 @@ impl Sizes {
     fn long(random: &Random) -> Sizes {
         let first = 60 + random.below(60);
         let blocks = [first, first + random.below(30)];
-        Sizes { screen: generate::screen(random, 2), blocks, times: &[1, 1, 31, 310, 700] }
+        Sizes { screen: generate::screen(random, 2), blocks, times: &[1, 1, 31, 310, 1400] }
     }
 }
 
@@ -78,6 +66,8 @@ struct Seen {
     answers: Vec<Outcome>,
     /// the most blocks that a chain had, in either pool
     chain: usize,
+    /// after how many calls a list of the first pool was shorter than it had been
+    shorter: u64,
 }
 
 impl Case for Sequence {
@@ -115,10 +105,9 @@ impl Case for Sequence {
     /// Makes each call on the first pool and, unless that has no room for it (3 or 8), on the second; then reads the longest
     /// list of each.
     fn run(&self) -> Result<Seen, String> {
-        let (mut first, mut second) = (self.slot(0), self.slot(1));
-        let mut seen = Seen { answers: Vec::new(), chain: 0 };
-        let calls = self.calls.iter().flat_map(|Repeated(times, call)| std::iter::repeat_n(call, *times as usize));
-        for call in calls {
+        let [mut first, mut second] = [0, 1].map(|pool| Watched::over(self.slot(pool)));
+        let mut seen = Seen { answers: Vec::new(), chain: 0, shorter: 0 };
+        for call in Repeated::each(&self.calls) {
             let answer = first.call(call).map_err(|wrong| format!("first pool: {wrong}"))?;
             seen.answers.push(answer);
             if ![number::SHORT, number::NO_ROOM].contains(&answer[0]) {
@@ -127,10 +116,11 @@ impl Case for Sequence {
                     return Err(format!("{call:?}: the first pool answers {answer:?}, the second {shared:?}"));
                 }
             }
-            self.agree(&first, &second).map_err(|wrong| format!("after {call:?}: {wrong}"))?;
-            seen.chain = seen.chain.max(second.state.as_ref().map_or(0, State::longest_chain));
+            self.agree(&first.slot, &second.slot).map_err(|wrong| format!("after {call:?}: {wrong}"))?;
+            seen.chain = seen.chain.max(second.slot.state.as_ref().map_or(0, State::longest_chain));
         }
-        for mut slot in [first, second] {
+        seen.shorter = first.shorter;
+        for mut slot in [first.slot, second.slot] {
             if State::read(&slot.words).ok() != slot.state {
                 return Err("the words do not say what the model's state is".into());
             }
@@ -172,14 +162,17 @@ impl Sequence {
         Slot::over((0..words as u32).map(|at| at.wrapping_mul(0x9E37_79B9)).collect(), self.blocks[pool])
     }
 
-    /// Demand 3 of two pools that are opened: all lists agree, the second has more free blocks by the difference at the
-    /// opening, and the id places of its extra blocks hold poison.
+    /// Demand 3 of two pools that are opened: all lists and marks agree, the second has more free blocks by the difference
+    /// at the opening, and the id places of its extra blocks hold poison.
     fn agree(&self, first: &Slot, second: &Slot) -> Result<(), String> {
         let (Some(one), Some(two)) = (&first.state, &second.state) else {
             return Ok(());
         };
         if one.tiles.iter().zip(&two.tiles).any(|(one, two)| one.ids != two.ids) {
             return Err("the lists differ".into());
+        }
+        if let Some(at) = (0..one.screen.tiles()).map(mark_at).find(|&at| first.words[at] != second.words[at]) {
+            return Err(format!("the marks in word {at} differ"));
         }
         if second.words[4] - first.words[4] != two.blocks - one.blocks {
             return Err(format!("the first has {} free blocks, the second {}", first.words[4], second.words[4]));
@@ -197,11 +190,12 @@ impl Sequence {
 
 #[test]
 fn two_pools_answer_and_hold_as_the_model() {
-    let (mut numbers, mut chain, mut largest) = ([0u64; 11], 0, 0);
+    let (mut numbers, mut chain, mut largest, mut shorter) = ([0u64; 11], 0, 0, 0);
     let (mut cut, mut in_fewer_tiles, mut screens) = (0, 0, Vec::new());
     hold(0xF100_0002, 20_000, |case: &Sequence, seen: Seen| {
         seen.answers.iter().for_each(|answer| numbers[answer[0] as usize] += 1);
         chain = chain.max(seen.chain);
+        shorter += seen.shorter;
         largest += u32::from(case.screen.tiles() == 4096 && case.blocks[1] == 2048);
         screens.push(case.screen);
         if cut_both_ways(case.screen) {
@@ -212,10 +206,12 @@ fn two_pools_answer_and_hold_as_the_model() {
     let rarest = rarest_cut(&screens);
     println!("calls on the first pool, by the number that they return: {numbers:?}");
     println!("the longest chain has {chain} blocks; {largest} pools have 4,096 tiles and 2,048 blocks");
+    println!("after {shorter} of them a mark is above the entries of its tile");
     println!("{cut} sequences are on screens cut on both axes; each of the cut screens comes {rarest} times or more");
     println!("{in_fewer_tiles} shapes on these were listed in fewer tiles than full squares would have it");
     assert!(numbers.iter().all(|&calls| calls > 500), "each number should be returned often");
     assert!(chain > 40 && largest > 3, "long chains and largest pools should be there");
+    assert!(shorter > 100_000, "lists should often be shorter than they had been");
     assert!(cut > 5000 && rarest > 3, "screens that are cut on both axes should be common");
     assert!(in_fewer_tiles > 5000, "it should often matter that tiles are cut");
 }

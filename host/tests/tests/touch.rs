@@ -38,7 +38,7 @@ impl Case for Question {
         if !self.screen.allowed() {
             return Vec::new();
         }
-        let tiles = [0, self.tile / 2, self.tile.saturating_sub(1)].into_iter().filter(|&tile| tile < self.tile);
+        let tiles = smaller::lower(self.tile).into_iter();
         let mut all: Vec<_> = tiles.map(|tile| Question { tile, ..self.clone() }).collect();
         all.extend((1..self.screen.tiles()).contains(&self.tile).then(|| self.at_first_tile()));
         all.extend(smaller::screens(self.screen).into_iter().map(|screen| Question { screen, ..self.clone() }));

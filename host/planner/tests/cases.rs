@@ -1,0 +1,213 @@
+//! The planner on the lists of the folder cases, and on lines that are no calls. Beside each list `NAME.calls` stands what it
+//! prints, `NAME.out`, or, where it runs nothing, what it says on standard error, `NAME.err`.
+
+use std::ffi::{OsStr, OsString};
+use std::fs;
+use std::io::Write;
+use std::os::unix::ffi::OsStringExt;
+use std::path::PathBuf;
+use std::process::{Child, Command, Stdio};
+
+/// How a run ended, what it printed, and what it said on standard error.
+#[derive(PartialEq, Debug)]
+struct Ended {
+    status: Option<i32>,
+    output: String,
+    said: String,
+}
+
+fn start(argument: Option<&OsStr>, output: Stdio) -> Child {
+    let mut planner = Command::new(env!("CARGO_BIN_EXE_planner"));
+    planner.args(argument).stdin(Stdio::piped()).stdout(output).stderr(Stdio::piped()).spawn().unwrap()
+}
+
+/// Hands the planner its input, and waits for its end.
+fn end(mut running: Child, input: &[u8]) -> Ended {
+    // it may end before it has read all
+    let _ = running.stdin.take().unwrap().write_all(input);
+    let ended = running.wait_with_output().unwrap();
+    let [output, said] = [ended.stdout, ended.stderr].map(|bytes| String::from_utf8(bytes).unwrap());
+    Ended { status: ended.status.code(), output, said }
+}
+
+fn plan(list: impl AsRef<[u8]>) -> Ended {
+    end(start(None, Stdio::piped()), list.as_ref())
+}
+
+/// A run that came to nothing, for this reason.
+fn not_run(why: &str) -> Ended {
+    Ended { status: Some(2), output: String::new(), said: format!("planner: {why}\n") }
+}
+
+/// The stored lists, each with its name and the file beside it that has this ending.
+fn stored(ending: &str) -> Vec<(String, String, String)> {
+    let folder = PathBuf::from(env!("CARGO_MANIFEST_DIR")).join("cases");
+    let mut lists: Vec<PathBuf> = fs::read_dir(folder).unwrap().map(|entry| entry.unwrap().path()).collect();
+    lists.retain(|path| path.extension() == Some(OsStr::new("calls")) && path.with_extension(ending).exists());
+    lists.sort();
+    let read = |path: PathBuf| {
+        let name = path.file_stem().unwrap().to_string_lossy().into_owned();
+        let beside = fs::read_to_string(path.with_extension(ending)).unwrap();
+        (name, fs::read_to_string(path).unwrap(), beside)
+    };
+    lists.into_iter().map(read).collect()
+}
+
+/// The number after these words of what was printed.
+fn printed(output: &str, words: &str) -> u32 {
+    let rest = output.lines().find_map(|line| line.strip_prefix(words)).unwrap();
+    rest.split(',').next().unwrap().trim().parse().unwrap()
+}
+
+/// The rows of the table.
+fn table(output: &str) -> Vec<&str> {
+    output.lines().skip_while(|line| !line.starts_with("tile")).take_while(|line| !line.is_empty()).collect()
+}
+
+#[test]
+fn stored_lists_print_what_stands_beside_them() {
+    let lists = stored("out");
+    assert!(lists.len() >= 4);
+    for (name, list, output) in lists {
+        let status = Some(i32::from(output.contains("refused with 8")));
+        assert_eq!(plan(list), Ended { status, output, said: String::new() }, "{name}");
+    }
+}
+
+#[test]
+fn stored_lists_that_are_not_run_say_why() {
+    let lists = stored("err");
+    assert!(lists.len() >= 5);
+    for (name, list, said) in lists {
+        assert_eq!(plan(list), Ended { status: Some(2), output: String::new(), said }, "{name}");
+    }
+}
+
+/// With as many blocks as are told, by the marks or in use at once, the table is the same; with a block less than were in use
+/// at once, a call is refused for room.
+#[test]
+fn as_many_blocks_as_are_told_are_enough() {
+    for (name, list, output) in stored("out") {
+        if output.contains("refused with 8") {
+            continue;
+        }
+        let with_blocks = |blocks: u32| {
+            let opening = list.lines().find(|line| line.starts_with("open")).unwrap();
+            let (sizes, _) = opening.rsplit_once(' ').unwrap();
+            plan(list.replace(opening, &format!("{sizes} {blocks}")))
+        };
+        let by_marks = printed(&output, "blocks by the marks:");
+        let at_once = printed(&output, "blocks in use at once, at most:");
+        for blocks in [by_marks, at_once] {
+            let ended = with_blocks(blocks);
+            assert_eq!((ended.status, table(&ended.output)), (Some(0), table(&output)), "{name} with {blocks} blocks");
+        }
+        if at_once > 0 {
+            assert_eq!(with_blocks(at_once - 1).status, Some(1), "{name} with {} blocks", at_once - 1);
+        }
+    }
+}
+
+#[test]
+fn a_line_that_is_no_call_is_told() {
+    let whole = "is not a whole number from";
+    let unit = format!("{whole} -2147483648 to 2147483647");
+    let count = format!("{whole} 0 to 4294967295");
+    let lines = [
+        ("pont 7 0 0", "\"pont\" is not a call".into()),
+        ("7", "\"7\" is not a call".into()),
+        ("Point 7 0 0", "\"Point\" is not a call".into()),
+        ("point 7 0 0 # here", "point takes an id and 2 coordinates".into()),
+        ("point", "point takes an id and 2 coordinates".into()),
+        ("point 7 0", "point takes an id and 2 coordinates".into()),
+        ("line 7 0 0", "line takes an id and 4 coordinates".into()),
+        ("triangle 7 0 0 1 1 2", "triangle takes an id and 6 coordinates".into()),
+        ("triangle 7 0 0 1 1 2 2 3", "triangle takes an id and 6 coordinates".into()),
+        ("point seven 0 0", format!("\"seven\" {count}")),
+        ("point -1 0 0", format!("\"-1\" {count}")),
+        ("point 4294967296 0 0", format!("\"4294967296\" {count}")),
+        ("point 7 0.5 0", format!("\"0.5\" {unit}")),
+        ("point 7 0 2147483648", format!("\"2147483648\" {unit}")),
+        ("pixels", "pixels stands before point, line or triangle".into()),
+        ("pixels release 0", "\"release\" is not a call".into()),
+        ("pixels pixels point 7 0 0", "\"pixels\" is not a call".into()),
+        ("pixels point 7 0", "point takes an id and 2 coordinates".into()),
+        ("pixels point 7 0 0x1", "\"0x1\" is not a number".into()),
+        ("pixels point 7.5 0 0", format!("\"7.5\" {count}")),
+        ("release", "release takes a tile".into()),
+        ("release 0 1", "release takes a tile".into()),
+        ("release -1", format!("\"-1\" {count}")),
+        ("open 64 32 4 2", "open stands first, and once".into()),
+        ("point 7 0 \u{7}\u{fffd}", format!("\"\\u{{7}}\u{fffd}\" {unit}")),
+    ];
+    for (line, why) in lines {
+        let list = format!("# a list\nopen 64 32 4 2\npoint 1 0 0\n\n{line}\npoint 2 0 0\n");
+        assert_eq!(plan(list), not_run(&format!("line 5: {why}")), "{line}");
+    }
+    for (line, why) in [
+        ("open", "open takes width, height, s and blocks".into()),
+        ("open 64 32 4", "open takes width, height, s and blocks".into()),
+        ("open 64 32 4 2 1", "open takes width, height, s and blocks".into()),
+        ("open 64 32 4 two", format!("\"two\" {count}")),
+        ("open 64 -32 4 2", format!("\"-32\" {count}")),
+    ] {
+        assert_eq!(plan(format!("\n{line}\npoint 1 0 0\n")), not_run(&format!("line 2: {why}")), "{line}");
+    }
+}
+
+#[test]
+fn lines_may_end_and_be_spaced_as_they_like() {
+    let list = "open 64 32 4 2\npoint 7 0 0\n";
+    let other = "  # a comment\r\n\topen  64 32\t4 2\r\n\r\n   point 7 0 0";
+    assert_eq!(plan(other), plan(list));
+    assert_eq!(plan(list).status, Some(0));
+}
+
+/// A triangle takes 2,048 blocks; one of them is given back, and a 2,049th tile takes it.
+#[test]
+fn marks_may_ask_for_more_than_a_pool_can_have() {
+    let half = "open 512 512 3 2048\ntriangle 1 -262144 4095 262143 4095 0 -262144\n";
+    let ended = plan(format!("{half}release 0\npoint 2 8190 8190\n"));
+    assert_eq!(ended.status, Some(0));
+    assert!(ended.output.contains("blocks by the marks: 2049, which are more than a pool can have\n"));
+    assert!(ended.output.contains("blocks in use at once, at most: 2048, in a pool of 81928 words\n"));
+
+    let ended = plan(format!("{half}point 2 8190 8190\n"));
+    assert_eq!(ended.status, Some(1));
+    assert!(ended.output.ends_with(" No pool has more blocks than this one: release earlier, or take larger tiles.\n"));
+}
+
+#[test]
+fn what_is_no_text_is_told() {
+    let why = "line 1: \"\u{fffd}\" is not a whole number from 0 to 4294967295";
+    assert_eq!(plan(b"open 64 32 4 \xff"), not_run(why));
+    assert_eq!(plan(b"# \xff\xfe\0\nopen 64 32 4 2\n"), plan("#\nopen 64 32 4 2\n"));
+    assert_eq!(plan([0; 100_000]).status, Some(2));
+}
+
+#[test]
+fn help_is_told_and_other_words_are_not_taken() {
+    let with = |word: &OsStr| end(start(Some(word), Stdio::piped()), b"");
+    let help = with(OsStr::new("--help"));
+    assert_eq!((help.status, help.said.as_str()), (Some(0), ""));
+    for call in ["open WIDTH HEIGHT S BLOCKS", "point ID", "line ID", "triangle ID", "pixels point ID", "release TILE"]
+    {
+        assert!(help.output.contains(call), "{call}");
+    }
+    let ended = with(&OsString::from_vec(b"list\xff".to_vec()));
+    assert_eq!((ended.status, ended.output.as_str()), (Some(2), ""));
+    assert!(ended.said.starts_with("planner: what is "), "{}", ended.said);
+}
+
+#[test]
+fn output_that_cannot_be_written_is_told() {
+    let full = fs::OpenOptions::new().write(true).open("/dev/full").unwrap();
+    let on_full_device = start(None, full.into());
+    let mut on_closed_pipe = start(None, Stdio::piped());
+    drop(on_closed_pipe.stdout.take());
+    for running in [on_full_device, on_closed_pipe] {
+        let ended = end(running, b"open 64 32 4 2\n");
+        assert_eq!(ended.status, Some(1));
+        assert!(ended.said.starts_with("planner: the output was not written to its end: "), "{}", ended.said);
+    }
+}

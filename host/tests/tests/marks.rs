@@ -1,0 +1,150 @@
+//! How many blocks a list of calls needs. As many as its marks ask for are enough; as many as were in use at once are just
+//! enough.
+
+use flourscoop::raw;
+use model::number;
+use model::pool::{room, IDS_OF_BLOCK, MOST_BLOCKS};
+use model::screen::Screen;
+use tests::call::{Blocks, Call, Outcome, Repeated, Slot};
+use tests::generate::{self, cut_screens};
+use tests::hold::{hold, Case};
+use tests::random::Random;
+use tests::smaller::{self, fewer};
+
+/// Calls on a pool, after its opening.
+#[derive(Clone, Debug)]
+struct List {
+    screen: Screen,
+    calls: Vec<Repeated>,
+}
+
+/// The blocks that the marks ask for, and the most that were in use at once.
+#[derive(Clone, Copy, PartialEq, Eq, Debug)]
+struct Needs {
+    by_marks: u32,
+    at_once: u32,
+}
+
+fn opened(screen: Screen, blocks: u32) -> Slot {
+    let mut slot = Slot::over(vec![0; room(screen, blocks)], blocks);
+    assert_eq!(slot.call(&Call::Open { screen, blocks: Blocks::Own }), Ok([number::DONE, 0, 0]));
+    slot
+}
+
+/// The mark of each tile, as the archive tells it.
+fn marks(slot: &Slot) -> Vec<u32> {
+    (0..).map_while(|tile| raw::high_water(&slot.words, tile).done().ok()).map(|[mark]| mark).collect()
+}
+
+impl List {
+    /// Whether a pool with so many blocks gives these calls these answers, and has these marks in the end. Where not, it has
+    /// refused one for room.
+    fn enough(&self, blocks: u32, made: &[(&Call, Outcome)], all_marks: &[u32]) -> Result<bool, String> {
+        let mut slot = opened(self.screen, blocks);
+        for &(call, answer) in made {
+            let other = slot.call(call)?;
+            if other[0] == number::NO_ROOM {
+                return Ok(false);
+            }
+            if other != answer {
+                return Err(format!("{call:?}: with {blocks} blocks {other:?}, with {MOST_BLOCKS} {answer:?}"));
+            }
+        }
+        if marks(&slot) != all_marks {
+            return Err(format!("with {blocks} blocks the marks are others"));
+        }
+        Ok(true)
+    }
+}
+
+impl Case for List {
+    type Seen = Needs;
+
+    fn make(random: &Random, place: u64) -> List {
+        let screen = match place % 20 {
+            0 => random.pick(&cut_screens()),
+            10 => generate::screen(random, 24),
+            _ => generate::screen(random, 4),
+        };
+        let call = |_| match random.below(4) {
+            0 => Call::Release { tile: generate::tile(random, screen) },
+            _ => Call::make(random, screen),
+        };
+        let calls = (0..4 + random.below(20)).map(call).filter(|call| !matches!(call, Call::Open { .. }));
+        List { screen, calls: calls.map(|call| Repeated(random.pick(&[1, 1, 1, 1, 1, 2, 5, 31, 40]), call)).collect() }
+    }
+
+    fn smaller(&self) -> Vec<List> {
+        let with_calls = |calls| List { calls, ..self.clone() };
+        let mut all: Vec<_> = fewer(&self.calls).into_iter().map(with_calls).collect();
+        all.extend(smaller::screens(self.screen).into_iter().map(|screen| List { screen, ..self.clone() }));
+        all.extend(smaller::each(&self.calls, Repeated::smaller).into_iter().map(with_calls));
+        all
+    }
+
+    /// Makes the calls in a pool of 2,048 blocks and, less those that it has no room for, in pools with as many blocks as the
+    /// marks ask for, as were in use at once, and with a block more and less.
+    fn run(&self) -> Result<Needs, String> {
+        let mut largest = opened(self.screen, MOST_BLOCKS);
+        let (mut made, mut at_once) = (Vec::new(), 0);
+        for call in Repeated::each(&self.calls) {
+            let answer = largest.on_archive(call);
+            if answer[0] != number::NO_ROOM {
+                made.push((call, answer));
+            }
+            at_once = at_once.max(MOST_BLOCKS - largest.words[4]);
+        }
+        let marks = marks(&largest);
+        let by_marks = marks.iter().map(|mark| mark.div_ceil(IDS_OF_BLOCK as u32)).sum();
+        let around = [by_marks, at_once].into_iter().flat_map(|blocks| [blocks.saturating_sub(1), blocks, blocks + 1]);
+        for blocks in around.filter(|&blocks| blocks <= MOST_BLOCKS) {
+            let enough = self.enough(blocks, &made, &marks)?;
+            if enough != (at_once <= blocks) || (by_marks <= blocks && !enough) {
+                return Err(format!(
+                    "{blocks} blocks are {}enough; the marks ask for {by_marks}, and {at_once} were in use at once",
+                    if enough { "" } else { "not " }
+                ));
+            }
+        }
+        Ok(Needs { by_marks, at_once })
+    }
+}
+
+#[test]
+fn as_many_blocks_as_the_marks_ask_for_are_enough() {
+    let (mut tight, mut loose, mut most) = (0, 0, 0);
+    hold(0xF100_0006, 1000, |_: &List, needs| {
+        tight += u32::from(needs.by_marks == needs.at_once && needs.at_once > 0);
+        loose += u32::from(needs.by_marks > needs.at_once);
+        most = most.max(needs.by_marks);
+    });
+    println!("{tight} lists need as many blocks as the marks ask for, {loose} fewer; the marks ask for {most} at most");
+    assert!(tight > 200, "a block less than the marks ask for should often be refused");
+    assert!(loose > 200, "lists that give blocks back should be common");
+    assert!(most > 200, "some lists should fill many tiles");
+}
+
+/// Calls on a screen of two tiles.
+fn on_two_tiles(calls: &[(u32, Call)]) -> List {
+    let calls = calls.iter().map(|(times, call)| Repeated(*times, call.clone())).collect();
+    List { screen: Screen { width: 16, height: 8, s: 3 }, calls }
+}
+
+fn point_in(tile: i32) -> Call {
+    Call::Bin { id: 5, shape: vec![[128 * tile + 1, 1]] }
+}
+
+#[test]
+fn without_a_release_a_block_less_is_refused() {
+    let list = on_two_tiles(&[(32, point_in(0)), (1, point_in(1))]);
+    assert_eq!(list.run(), Ok(Needs { by_marks: 3, at_once: 3 }));
+    let mut slot = opened(list.screen, 2);
+    let numbers: Vec<u32> = Repeated::each(&list.calls).map(|call| slot.call(call).unwrap()[0]).collect();
+    assert_eq!(numbers, [&[number::DONE; 32][..], &[number::NO_ROOM]].concat());
+}
+
+#[test]
+fn what_a_tile_gives_back_another_takes() {
+    let list = on_two_tiles(&[(32, point_in(0)), (1, Call::Release { tile: 0 }), (40, point_in(1))]);
+    assert_eq!(list.run(), Ok(Needs { by_marks: 4, at_once: 2 }));
+}

@@ -145,7 +145,7 @@ uint32_t flourscoop_open(uint32_t *pool, size_t words, uint32_t width, uint32_t 
 
 /*
  * Says whether the words are a sound pool: header, chains, counts, marks and ids in range, poison in every unused place.
- * It does not detect one valid id replaced by another, nor one mark in range. Every call on a pool does this first.
+ * It does not detect an id or a mark in the place of another that could stand there. Every call on a pool does this first.
  * Returns 0 for yes, 4 for no.
  */
 uint32_t flourscoop_audit(const uint32_t *pool, size_t words);

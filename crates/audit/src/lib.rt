@@ -1,5 +1,6 @@
 // The audit of a pool: whether a slice of words is a sound pool, for any words and any length. It asks nothing of its caller and changes nothing.
-// Each block is marked as it is met, and no chain is followed past a marked block: the time is linear in the room, whatever the words are.
+// Each block is marked as it is met, and no chain is followed past a marked block: the time is linear in the room, whatever the words are. These marks are
+// bytes on the stack; the mark of a tile is one of its words.
 use numbers::wide;
 use pool::BLOCK_IDS;
 use pool::BLOCK_WORDS;
@@ -137,7 +138,7 @@ fn mark_right(pool: &[u32], blocks: u32, tile: Tile) -> bool
     mark <= BLOCK_IDS * wide(blocks)
 }
 
-// Whether a tile has its chain, names the last block of it and has a right mark. The chain's blocks are marked.
+// Whether a tile's mark is right, and it has its chain and names the last block of it. The chain's blocks are marked.
 fn tile_right(pool: &[u32], marks: &mut [u8], from: usize, blocks: u32, tile: Tile) -> bool
     requires { ⌜ (blockStart edition from blocks ≤ length (now pool)) × (blocks ≤ length (now marks)) × (tileStart edition (tile .0 + 1) ≤ length (now pool)) ⌝ }
     ensures { λ r. ⌜ Passes r (TileRight edition (now (pool .entry)) from blocks (tile .0)) blocks (now (marks .entry)) (now (marks .exit)) (λ b. times b (chainOf edition (now (pool .entry)) from (tile .0))) ⌝ }

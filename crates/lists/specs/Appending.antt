@@ -19,7 +19,7 @@ unfoldable pub need : Layout → List ℕ → (ts : List ℕ) → ℕ
 need L p [] = 0
 need L p (t ∷ ts) = one (multiple (L .ids) (tileWord L p t 0)) + need L p ts
 
--- tile t has q entries, and its mark is at least that
+-- tile t has q entries, and its mark is what it was, or q where that is greater
 unfoldable pub counted : Layout → List ℕ → (t q : ℕ) → List ℕ
 counted L p t q = tileSet L (tileSet L p t 3 (max (tileWord L p t 3) q)) t 0 q
 

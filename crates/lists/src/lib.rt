@@ -118,7 +118,7 @@ fn greater(a: u32, b: u32) -> u32
     if a < b { b } else { a }
 }
 
-// A tile has so many entries, and its mark is at least that.
+// A tile has so many entries, and its mark is what it was or, where that is greater, so many.
 fn set_entries(pool: &mut [u32], tile: Tile, entries: u32)
     requires { ⌜ TileIn (now pool) (tile .0) 3 ⌝ }
     ensures { λ r. ⌜ now (pool .exit) ≡ counted edition (now (pool .entry)) (tile .0) entries ⌝ }

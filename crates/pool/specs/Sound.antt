@@ -37,7 +37,7 @@ pub record TileShows (L : Layout) (T N : ℕ) (p : List ℕ) (t : ℕ) (x : Chai
   pub many : length (x .blocks) ≡ ceil (length (x .list)) (L .ids)
   pub in-range : (i : ℕ) → i < length (x .list) → getD (x .list) i 0 < L .limit
   pub held : Holds (L .ids) (L .poison) (blockWord L T p) (x .blocks) (x .list)
-  -- at least the entries, and no more than all blocks hold
+  -- the mark is at least the entries, and at most what all blocks hold
   pub mark : tileWord L p t 3 ≡ x .mark
   pub mark≥ : length (x .list) ≤ x .mark
   pub mark≤ : x .mark ≤ L .ids * N

@@ -18,9 +18,9 @@
  *   Calls on different pools are independent and may run at the same time. Calls on one pool must not overlap; two calls
  *   of which each only audits, reads or asks for a mark may. Calls that take no pool may always run.
  *
- * STACK, in bytes, as measured, on x86-64 of version 0.2.0; of bin's, 16,384 list the touched tiles
+ * STACK, in bytes, as measured, on x86-64 in an emulator; of bin's, 16,384 list the touched tiles
  *               bin      audit   read    high_water   release   corner   box   open   unit
- *     x86-64    17,296   2,240   2,272   -            2,272     352      192   64     16
+ *     x86-64    17,296   2,256   2,288   2,288        2,288     352      192   64     16
  *     Arm       17,216   2,256   2,304   2,288        2,288     240      160   64     32
  *
  * SCREEN AND UNITS

@@ -1,4 +1,4 @@
--- The layout of before, in which a tile had no mark: every call on such a pool answers 4.
+-- The layout of before, in which a tile had no mark: every call on such a pool answers 4, but for an opening, which does not look at the words.
 use mathlib.Core.Path.{_≡_}
 use mathlib.Core.List.{List}
 use Prim.Native.Nat.{ℕ}

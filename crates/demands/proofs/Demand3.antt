@@ -43,7 +43,7 @@ pub record Fresh (d : Screen) (N : ℕ) (p : List ℕ) : Type 0 where
   pub screen : screenOf p ≡ d
   pub blocks : blocksOf p ≡ N
   pub none : (t : ℕ) → t < tiles d → listIn p t ≡ []
-  pub unmarked : (t : ℕ) → t < tiles d → markIn p t ≡ 0
+  pub no-marks : (t : ℕ) → t < tiles d → markIn p t ≡ 0
 
 pub fresh : {old : List ℕ} {d : Screen} {N : ℕ} {p : List ℕ} → AcceptedOpening old d N p → Fresh d N p
 fresh {old} {d} {N} {p} A =
@@ -55,7 +55,7 @@ fresh {old} {d} {N} {p} A =
       blocks = opening-blocks edition d N old fits edition-fair;
       none = λ t ht. ap (λ (T : ℕ). listOf edition T (opening edition d N old) t) (opening-tiles edition d N old fits edition-fair)
           ∙ opening-lists-empty edition d N old fits edition-fair t ht;
-      unmarked = λ t ht. opening-tile edition d N old fits t 3 ht (edition-fair .tile>);
+      no-marks = λ t ht. opening-tile edition d N old fits t 3 ht (edition-fair .tile>);
     })
 
 -- two openings say the same, the second with n blocks more

@@ -22,25 +22,25 @@ use Rattle.demands.proofs.Runs.{step-stays, run-stays}
 use Rattle.demands.proofs.Demand3.{accepted-opening, fresh}
 
 -- the mark of tile t follows its list
-abbrev Follows : (p q : List ℕ) (t : ℕ) → Type 0
-Follows p q t = markIn q t ≡ max (markIn p t) (length (listIn q t))
+abbrev MarkFollows : (p q : List ℕ) (t : ℕ) → Type 0
+MarkFollows p q t = markIn q t ≡ max (markIn p t) (length (listIn q t))
 
 -- no mark is below the length of its list
-pub length≤mark : {p : List ℕ} → Sound edition p → (t : ℕ) → t < tilesOf p → length (listIn p t) ≤ markIn p t
+length≤mark : {p : List ℕ} → Sound edition p → (t : ℕ) → t < tilesOf p → length (listIn p t) ≤ markIn p t
 length≤mark S t ht = let k = S .shows .tile t ht in omega (arith, k .mark, k .mark≥, ap length (listOf-shows edition-fair (S .shows) t ht))
 
 -- an accepted call, where a mark that stays follows: only a bin changes marks
 accepted-marks : (p : List ℕ) (e : Entry) (q : List ℕ) (t : ℕ) → Sound edition p → Step p e q → numberOf e ≡ 0 → t < tilesOf p
-    → (markIn q t ≡ markIn p t → Follows p q t) → Follows p q t
+    → (markIn q t ≡ markIn p t → MarkFollows p q t) → MarkFollows p q t
 accepted-marks p (binned shape id a) q t S s z ht stayed = demand-2-bin S s .listed z .marks t ht
 accepted-marks p (binned-pixels shape id a) q t S s z ht stayed = demand-2-pixels S s .listed z .2 .marks t ht
 accepted-marks p (found tile place a) q t S s z ht stayed = stayed (ap (λ (x : List ℕ). markIn x t) (s .1))
 accepted-marks p (released tile a) q t S s z ht stayed = stayed (demand-2-release S s .emptied z .marks t ht)
 
-pub step-marks : (p : List ℕ) (e : Entry) (q : List ℕ) → Sound edition p → Step p e q → (t : ℕ) → t < tilesOf p → Follows p q t
+pub step-marks : (p : List ℕ) (e : Entry) (q : List ℕ) → Sound edition p → Step p e q → (t : ℕ) → t < tilesOf p → MarkFollows p q t
 step-marks p e q S s t ht =
     let K = step-stays p e q S s in
-    let stayed : markIn q t ≡ markIn p t → Follows p q t
+    let stayed : markIn q t ≡ markIn p t → MarkFollows p q t
     = (λ same. omega (arith, length≤mark (K .sound) t (subst (λ (d : Screen). t < tiles d) (sym (K .screen)) ht))) in
     ⊎-elim
     (λ (z : numberOf e ≡ 0). accepted-marks p e q t S s z ht stayed)
@@ -57,4 +57,4 @@ run-marks d p S screen none (e ∷ h) q r t ht =
     step-marks m e q (M .sound) (r .2) t ht′ ∙ ap (λ (k : ℕ). max k (length (listIn q t))) (run-marks d p S screen none h m (r .1) t ht)
 
 pub marks-are-greatest : MarksAreGreatest
-marks-are-greatest d N old p O = let P = fresh (accepted-opening O) in run-marks d p (P .sound) (P .screen) (P .unmarked)
+marks-are-greatest d N old p O = let P = fresh (accepted-opening O) in run-marks d p (P .sound) (P .screen) (P .no-marks)

@@ -119,7 +119,7 @@ fewer-are-enough d N n p₁ p₂ O h₂ q₂ r₂ none free h₁ q₁ same R₁ 
 -- ---- the marks
 
 -- the blocks that are not free are no more than the marks ask for
-pub in-use≤ : {q : List ℕ} → Sound edition q → blocksOf q ≤ freeIn q + blocksByMarks (screenOf q) q
+in-use≤ : {q : List ℕ} → Sound edition q → blocksOf q ≤ freeIn q + blocksByMarks (screenOf q) q
 in-use≤ {q} S =
     let R = S .shows in
     let s = S .state in

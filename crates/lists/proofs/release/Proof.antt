@@ -1,5 +1,5 @@
 -- `release`: to give back the chain that is left ends in the words that are promised, and what is left and what was given back are all of its blocks.
--- Then the tile's three words are set.
+-- Then the tile's words are set, but for its mark.
 use mathlib.Core.Path.{_≡_, refl}
 use Prim.Native.Nat.{_-_}
 use native.Mathlib.Omega.{arith}

@@ -4,15 +4,22 @@ use mathlib.Core.List.{List}
 use Prim.Native.Nat.{ℕ, suc, _+_, _*_, _≤_}
 use lib.ListN.{length}
 use Rattle.pool.specs.Words.{Layout, start, room}
+use Rattle.pool.specs.Editions.{layoutFor}
+use Rattle.pool.specs.declared.Edition.{Edition}
 use Rattle.pool.specs.Sound.{Opened}
 use Rattle.audit.specs.Answer.{HeaderOf, AuditFinds}
 use Rattle.audit.specs.declared.Header.{Header}
 use Rattle.audit.specs.declared.Audited.{Audited}
 use Rattle.audit.specs.declared.Audited.the-variants.{Sound, Damaged}
 
+-- a layout is that of one edition
+same-layout : {e f : Edition} → layoutFor e ≡ layoutFor f → e ≡ f
+same-layout h = λ i. record { header = h i .header; ids = h i .ids }
+
 -- the words have one header
 pub header-once : {L : Layout} {p : List ℕ} {g h : Header} → HeaderOf L p g → HeaderOf L p h → g ≡ h
 header-once a b = λ i. record {
+  layout = same-layout (a .layout ∙ sym (b .layout)) i;
   screen = (a .screen ∙ sym (b .screen)) i;
   tiles = (a .tiles ∙ sym (b .tiles)) i;
   blocks = (a .blocks ∙ sym (b .blocks)) i;

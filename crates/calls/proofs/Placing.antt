@@ -9,18 +9,20 @@ use Rattle.screen.specs.declared.Screen.{Screen}
 use Rattle.screen.specs.Screen.{Allowed, tiles}
 use Rattle.shape.specs.declared.Shape.{Shape}
 use Rattle.walk.specs.Touched.{TouchedTiles, Walked}
-use Rattle.pool.specs.Words.{edition}
+use Rattle.pool.specs.Words.{layoutOf}
+use Rattle.pool.specs.Editions.{layoutFor}
 use Rattle.pool.specs.Sound.{Sound, screenOf, tilesOf}
 use Rattle.audit.specs.declared.Header.{Header}
 use Rattle.audit.specs.Answer.{HeaderOf}
 use Rattle.lists.specs.Appending.{Distinct}
 use Rattle.lists.specs.Reach.{AllAmong}
 use Rattle.lists.proofs.Named.{rising-distinct}
+use Rattle.calls.proofs.Audits.{carried-sound, carried-sized}
 
 pub touched-distinct : {d : Screen} {shape : Shape} {ts : List ℕ} → TouchedTiles d shape ts → Distinct (tiles d) ts
 touched-distinct {ts} w = rising-distinct ts (w .rising) (λ i h. w .touched i h .0)
 
-module _ {p : List ℕ} {h : Header} (S : Sound edition p) (H : HeaderOf edition p h) where
+module _ {p : List ℕ} {h : Header} (S : Sound (layoutOf p) p) (H : HeaderOf (layoutOf p) p h) where
   pub screen-allowed : Allowed (h .screen)
   screen-allowed = subst Allowed (sym (H .screen)) (S .opened .screen)
 
@@ -35,12 +37,13 @@ module _ {p : List ℕ} {h : Header} (S : Sound edition p) (H : HeaderOf edition
       pub as-many : length (take n new) ≡ n
       as-many = length-take-le n new fits
 
-      pub all-among : {T k : ℕ} → T ≡ h .tiles → k ≡ n → (k ≤ length new) × AllAmong p T (take k new)
+      pub all-among : {T k : ℕ} → T ≡ h .tiles → k ≡ n → (k ≤ length new) × AllAmong (layoutFor (h .layout)) p T (take k new)
       all-among {T} {k} e f =
           let t : T ≡ tilesOf p = e ∙ H .tiles in (
             omega (arith, fits),
             record {
-              sound = S;
+              sound = carried-sound (S, H);
+              sized = carried-sized (S, H);
               tiles = t;
               distinct = rw (t, f) (touched-distinct touched-here);
             },

@@ -1,5 +1,5 @@
 -- The decision tables of the public calls, a row for each number in the order in which it is given. A row has its cause, with no earlier one applying, and
--- then the whole outcome: the answer a, and the words q that are left of the words p. The table of open stands beside the words that it leaves, in the
+-- then the whole outcome: the answer a, and the words q that are left of the words p, whose layout is the one that they say. The table of open stands beside the words that it leaves, in the
 -- crate `pool`, and those of the questions about touching in Questions.
 use mathlib.Core.Path.{_≡_}
 use mathlib.Core.List.{List}
@@ -12,7 +12,7 @@ use Rattle.walk.specs.Touched.{TouchedTiles}
 use Rattle.snap.specs.declared.PixelShape.{PixelShape}
 use Rattle.snap.specs.declared.SnappedShape.{SnappedShape}
 use Rattle.snap.specs.Shapes.{shapeOf}
-use Rattle.pool.specs.Words.{edition, headerWord, tileWord}
+use Rattle.pool.specs.Words.{edition, layoutOf, headerWord, tileWord}
 use Rattle.pool.specs.Sound.{Sound, screenOf, tilesOf}
 use Rattle.pool.specs.Lists.{listOf}
 use Rattle.lists.specs.Appending.{need, appendAll}
@@ -24,11 +24,11 @@ use Rattle.calls.specs.declared.HighWater.{HighWater}
 
 -- the list of tile t in the words p
 abbrev pub listIn : List ℕ → (t : ℕ) → List ℕ
-listIn p t = listOf edition (tilesOf p) p t
+listIn p t = listOf (layoutOf p) (tilesOf p) p t
 
 -- the mark of tile t in the words p
 abbrev pub markIn : List ℕ → (t : ℕ) → ℕ
-markIn p t = tileWord edition p t 3
+markIn p t = tileWord (layoutOf p) p t 3
 
 -- word 4: how many blocks are free
 abbrev pub freeIn : List ℕ → ℕ
@@ -36,49 +36,49 @@ freeIn p = headerWord p 4
 
 -- the audit alone: 0 or 4
 pub data AuditSays (p : List ℕ) (a : ℕ) : Type 0 where
-  damaged : (Sound edition p → ⊥) → a ≡ 4 → AuditSays p a
-  done : Sound edition p → a ≡ 0 → AuditSays p a
+  damaged : (Sound (layoutOf p) p → ⊥) → a ≡ 4 → AuditSays p a
+  done : Sound (layoutOf p) p → a ≡ 0 → AuditSays p a
 
 abbrev pub refusedBin : (number : ℕ) → Binned
 refusedBin n = record { number = n; tiles = 0; blocks = 0 }
 
 -- the last rows of both bins, where the pool, the id and the vertices are in order: 8
 pub data PlaceSays (p : List ℕ) (shape : Shape) (id : ℕ) (a : Binned) (q : List ℕ) : Type 0 where
-  no-room : (ts : List ℕ) → TouchedTiles (screenOf p) shape ts → freeIn p < need edition p ts → a ≡ refusedBin 8 → q ≡ p → PlaceSays p shape id a q
-  done : (ts : List ℕ) → TouchedTiles (screenOf p) shape ts → need edition p ts ≤ freeIn p
-      → a ≡ record { number = 0; tiles = length ts; blocks = need edition p ts } → q ≡ appendAll edition (tilesOf p) p ts id
+  no-room : (ts : List ℕ) → TouchedTiles (screenOf p) shape ts → freeIn p < need (layoutOf p) p ts → a ≡ refusedBin 8 → q ≡ p → PlaceSays p shape id a q
+  done : (ts : List ℕ) → TouchedTiles (screenOf p) shape ts → need (layoutOf p) p ts ≤ freeIn p
+      → a ≡ record { number = 0; tiles = length ts; blocks = need (layoutOf p) p ts } → q ≡ appendAll (layoutOf p) (tilesOf p) p ts id
       → PlaceSays p shape id a q
 
 -- bin of a whole-number shape: 4, 5, 7, then 8
 pub data BinSays (p : List ℕ) (shape : Shape) (id : ℕ) (a : Binned) (q : List ℕ) : Type 0 where
-  damaged : (Sound edition p → ⊥) → a ≡ refusedBin 4 → q ≡ p → BinSays p shape id a q
-  bad-id : Sound edition p → edition .limit ≤ id → a ≡ refusedBin 5 → q ≡ p → BinSays p shape id a q
-  out-of-range : Sound edition p → id < edition .limit → (InRange shape → ⊥) → a ≡ refusedBin 7 → q ≡ p → BinSays p shape id a q
-  placed : Sound edition p → id < edition .limit → InRange shape → PlaceSays p shape id a q → BinSays p shape id a q
+  damaged : (Sound (layoutOf p) p → ⊥) → a ≡ refusedBin 4 → q ≡ p → BinSays p shape id a q
+  bad-id : Sound (layoutOf p) p → edition .limit ≤ id → a ≡ refusedBin 5 → q ≡ p → BinSays p shape id a q
+  out-of-range : Sound (layoutOf p) p → id < edition .limit → (InRange shape → ⊥) → a ≡ refusedBin 7 → q ≡ p → BinSays p shape id a q
+  placed : Sound (layoutOf p) p → id < edition .limit → InRange shape → PlaceSays p shape id a q → BinSays p shape id a q
 
 -- bin of a shape in pixels: 4, 5, then 6 or 7 as the first offence decides, then 8
 pub data BinPixelsSays (p : List ℕ) (shape : PixelShape) (id : ℕ) (a : Binned) (q : List ℕ) : Type 0 where
-  damaged : (Sound edition p → ⊥) → a ≡ refusedBin 4 → q ≡ p → BinPixelsSays p shape id a q
-  bad-id : Sound edition p → edition .limit ≤ id → a ≡ refusedBin 5 → q ≡ p → BinPixelsSays p shape id a q
-  offence : Sound edition p → id < edition .limit → (n : ℕ) → shapeOf shape ≡ SnappedShape.Refused n → a ≡ refusedBin n → q ≡ p → BinPixelsSays p shape id a q
-  placed : Sound edition p → id < edition .limit → (whole : Shape) → shapeOf shape ≡ SnappedShape.Whole whole → PlaceSays p whole id a q → BinPixelsSays p shape id a q
+  damaged : (Sound (layoutOf p) p → ⊥) → a ≡ refusedBin 4 → q ≡ p → BinPixelsSays p shape id a q
+  bad-id : Sound (layoutOf p) p → edition .limit ≤ id → a ≡ refusedBin 5 → q ≡ p → BinPixelsSays p shape id a q
+  offence : Sound (layoutOf p) p → id < edition .limit → (n : ℕ) → shapeOf shape ≡ SnappedShape.Refused n → a ≡ refusedBin n → q ≡ p → BinPixelsSays p shape id a q
+  placed : Sound (layoutOf p) p → id < edition .limit → (whole : Shape) → shapeOf shape ≡ SnappedShape.Whole whole → PlaceSays p whole id a q → BinPixelsSays p shape id a q
 
 -- read: 4, 9, 10
 pub data ReadSays (p : List ℕ) (t place : ℕ) (a : Found) : Type 0 where
-  damaged : (Sound edition p → ⊥) → a ≡ record { number = 4; id = 0 } → ReadSays p t place a
-  no-tile : Sound edition p → tilesOf p ≤ t → a ≡ record { number = 9; id = 0 } → ReadSays p t place a
-  past : Sound edition p → t < tilesOf p → length (listIn p t) ≤ place → a ≡ record { number = 10; id = 0 } → ReadSays p t place a
-  done : Sound edition p → t < tilesOf p → place < length (listIn p t) → a ≡ record { number = 0; id = getD (listIn p t) place 0 } → ReadSays p t place a
+  damaged : (Sound (layoutOf p) p → ⊥) → a ≡ record { number = 4; id = 0 } → ReadSays p t place a
+  no-tile : Sound (layoutOf p) p → tilesOf p ≤ t → a ≡ record { number = 9; id = 0 } → ReadSays p t place a
+  past : Sound (layoutOf p) p → t < tilesOf p → length (listIn p t) ≤ place → a ≡ record { number = 10; id = 0 } → ReadSays p t place a
+  done : Sound (layoutOf p) p → t < tilesOf p → place < length (listIn p t) → a ≡ record { number = 0; id = getD (listIn p t) place 0 } → ReadSays p t place a
 
 -- the mark of a tile: 4, 9
 pub data HighWaterSays (p : List ℕ) (t : ℕ) (a : HighWater) : Type 0 where
-  damaged : (Sound edition p → ⊥) → a ≡ record { number = 4; entries = 0 } → HighWaterSays p t a
-  no-tile : Sound edition p → tilesOf p ≤ t → a ≡ record { number = 9; entries = 0 } → HighWaterSays p t a
-  done : Sound edition p → t < tilesOf p → a ≡ record { number = 0; entries = markIn p t } → HighWaterSays p t a
+  damaged : (Sound (layoutOf p) p → ⊥) → a ≡ record { number = 4; entries = 0 } → HighWaterSays p t a
+  no-tile : Sound (layoutOf p) p → tilesOf p ≤ t → a ≡ record { number = 9; entries = 0 } → HighWaterSays p t a
+  done : Sound (layoutOf p) p → t < tilesOf p → a ≡ record { number = 0; entries = markIn p t } → HighWaterSays p t a
 
 -- release: 4, 9
 pub data ReleaseSays (p : List ℕ) (t : ℕ) (a : Released) (q : List ℕ) : Type 0 where
-  damaged : (Sound edition p → ⊥) → a ≡ record { number = 4; blocks = 0 } → q ≡ p → ReleaseSays p t a q
-  no-tile : Sound edition p → tilesOf p ≤ t → a ≡ record { number = 9; blocks = 0 } → q ≡ p → ReleaseSays p t a q
-  done : Sound edition p → t < tilesOf p → a ≡ record { number = 0; blocks = ceil (length (listIn p t)) (edition .ids) } → q ≡ release edition (tilesOf p) p t
+  damaged : (Sound (layoutOf p) p → ⊥) → a ≡ record { number = 4; blocks = 0 } → q ≡ p → ReleaseSays p t a q
+  no-tile : Sound (layoutOf p) p → tilesOf p ≤ t → a ≡ record { number = 9; blocks = 0 } → q ≡ p → ReleaseSays p t a q
+  done : Sound (layoutOf p) p → t < tilesOf p → a ≡ record { number = 0; blocks = ceil (length (listIn p t)) (layoutOf p .ids) } → q ≡ release (layoutOf p) (tilesOf p) p t
       → ReleaseSays p t a q

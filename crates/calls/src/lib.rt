@@ -12,7 +12,7 @@ use snap::PixelShape;
 use snap::Snapped;
 use snap::SnappedShape;
 ghost use mathlib.Core.Path.{_≡_};
-ghost use Rattle.pool.specs.Words.{edition};
+ghost use Rattle.pool.specs.Words.{edition, second, layoutOf};
 ghost use Rattle.pool.specs.Sound.{Sound};
 ghost use Rattle.pool.specs.Opening.{OpenSays};
 ghost use Rattle.shape.specs.Shape.{InRange};
@@ -66,6 +66,13 @@ pub fn open(pool: &mut [u32], screen: Screen, blocks: u32) -> u32
     pool::open(pool, screen, blocks)
 }
 
+// The same of the second edition, with blocks of `size` words: 2 also where that is neither 32 nor 64.
+pub fn open_two(pool: &mut [u32], screen: Screen, blocks: u32, size: u32) -> u32
+    ensures { λ r. ⌜ OpenSays (second size) (now (pool .entry)) screen blocks r (now (pool .exit)) ⌝ }
+{
+    pool::open_two(pool, screen, blocks, size)
+}
+
 // 0 where the pool is sound, and else 4.
 pub fn audit(pool: &[u32]) -> u32
     ensures { λ r. ⌜ AuditSays (now (pool .entry)) r ⌝ }
@@ -91,17 +98,17 @@ fn refused_bin(number: u32) -> Binned
 // Appends the id to the list of each tile that the shape touches, in rising number, where there are as many free blocks as that needs: 0, or 8.
 // Nothing is written before the blocks are counted.
 fn place(pool: &mut [u32], header: Header, shape: Shape, id: u32) -> Binned
-    requires { ⌜ (Sound edition (now pool)) × (HeaderOf edition (now pool) header) × (InRange shape) × (id < edition .limit) ⌝ }
+    requires { ⌜ (Sound (layoutOf (now pool)) (now pool)) × (HeaderOf (layoutOf (now pool)) (now pool) header) × (InRange shape) × (id < edition .limit) ⌝ }
     ensures { λ r. ⌜ PlaceSays (now (pool .entry)) shape id r (now (pool .exit)) ⌝ }
 {
     let mut touched = [0u32; 4096];
     let count = walk::touched_tiles(header.screen, shape, &mut touched);
     let tiles = wide(header.tiles);
-    let blocks = lists::need(pool, tiles, &touched, wide(count));
-    if wide(lists::free(pool)) < blocks {
+    let blocks = lists::need(pool, header.layout, tiles, &touched, wide(count));
+    if wide(lists::free(pool, header.layout)) < blocks {
         return refused_bin(8);
     }
-    lists::append_all(pool, tiles, &touched, wide(count), id);
+    lists::append_all(pool, header.layout, tiles, &touched, wide(count), id);
     Binned {
         number: 0,
         tiles: count,
@@ -156,10 +163,10 @@ pub fn read(pool: &[u32], tile: Tile, place: u32) -> Found
         return Found { number: 9, id: 0 };
     }
     let tiles = wide(header.tiles);
-    if lists::entries(pool, tiles, tile) <= place {
+    if lists::entries(pool, header.layout, tiles, tile) <= place {
         return Found { number: 10, id: 0 };
     }
-    let id = lists::id_at(pool, tiles, tile, place);
+    let id = lists::id_at(pool, header.layout, tiles, tile, place);
     Found { number: 0, id }
 }
 
@@ -180,7 +187,7 @@ pub fn high_water(pool: &[u32], tile: Tile) -> HighWater
             entries: 0,
         };
     }
-    let entries = lists::mark(pool, wide(header.tiles), tile);
+    let entries = lists::mark(pool, header.layout, wide(header.tiles), tile);
     HighWater { number: 0, entries }
 }
 
@@ -201,7 +208,7 @@ pub fn release(pool: &mut [u32], tile: Tile) -> Released
             blocks: 0,
         };
     }
-    let blocks = lists::release(pool, wide(header.tiles), tile);
+    let blocks = lists::release(pool, header.layout, wide(header.tiles), tile);
     Released { number: 0, blocks }
 }
 

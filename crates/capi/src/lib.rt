@@ -6,7 +6,7 @@ use shape::Shape;
 use shape::Vertex;
 use snap::PixelShape;
 use snap::PixelVertex;
-ghost use Rattle.pool.specs.Words.{edition};
+ghost use Rattle.pool.specs.Words.{edition, second};
 ghost use Rattle.pool.specs.Opening.{OpenSays};
 ghost use Rattle.shape.specs.declared.Shape.the-variants.{Point, Line, Triangle};
 ghost use Rattle.calls.specs.Tables.{AuditSays, BinSays, BinPixelsSays, ReadSays, HighWaterSays, ReleaseSays};
@@ -14,7 +14,7 @@ ghost use Rattle.calls.specs.Questions.{BoxSays, CornerSays};
 ghost use Rattle.calls.specs.Units.{UnitSays};
 ghost use Rattle.capi.specs.Faces.{screen, vertex, pixel, binned, released, found, highWater, rounded, Told};
 
-// Opens a pool: 0, or 1, 2, 3 in that order.
+// Opens a pool of the first edition: 0, or 1, 2, 3 in that order.
 #[no_mangle]
 pub extern "C" fn flourscoop_open(
     pool: &mut [u32],
@@ -26,6 +26,21 @@ pub extern "C" fn flourscoop_open(
     ensures { λ r. ⌜ OpenSays edition (now (pool .entry)) (screen width height s) blocks r (now (pool .exit)) ⌝ }
 {
     calls::open(pool, Screen { width, height, s }, blocks)
+}
+
+// Opens a pool of the second edition: 0, or 1, 2, 3 in that order.
+#[no_mangle]
+pub extern "C" fn flourscoop_open_two(
+    pool: &mut [u32],
+    width: u32,
+    height: u32,
+    s: u32,
+    blocks: u32,
+    size: u32,
+) -> u32
+    ensures { λ r. ⌜ OpenSays (second size) (now (pool .entry)) (screen width height s) blocks r (now (pool .exit)) ⌝ }
+{
+    calls::open_two(pool, Screen { width, height, s }, blocks, size)
 }
 
 // 0 where the pool is sound, and else 4.

@@ -9,9 +9,9 @@ use Rattle.screen.specs.Screen.{tiles}
 use Rattle.shape.specs.declared.Shape.{Shape}
 use Rattle.snap.specs.declared.PixelShape.{PixelShape}
 use Rattle.snap.proofs.Shapes.{refused-six-or-seven}
-use Rattle.pool.specs.Words.{edition, room}
+use Rattle.pool.specs.Words.{Layout, edition, layoutOf, room}
 use Rattle.pool.specs.Sound.{Sound, tilesOf, blocksOf}
-use Rattle.pool.proofs.Words.{edition-fair}
+use Rattle.pool.proofs.Editions.{layout-fair}
 use Rattle.pool.proofs.Opening.{header-fits, opening-length, opening-tail}
 use Rattle.lists.proofs.Releases.{release-releases}
 use Rattle.calls.specs.declared.Binned.{Binned}
@@ -35,16 +35,16 @@ refusal {p} {e} {q} n is ne among zeros same = record {
   accepted = λ z. absurd (ne (omega arith));
 }
 
-acceptance : {p : List ℕ} {e : Entry} {q : List ℕ} → numberOf e ≡ 0 → Outside (room edition (tilesOf p) (blocksOf p)) p q → Demand1 p e q
+acceptance : {p : List ℕ} {e : Entry} {q : List ℕ} → numberOf e ≡ 0 → Outside (room (layoutOf p) (tilesOf p) (blocksOf p)) p q → Demand1 p e q
 acceptance z out = record { number-is = inl z; refused = λ ne. absurd (ne z); accepted = λ _. out }
 
 -- ---- the bins
 
-placed-either : {p : List ℕ} {shape : Shape} {id : ℕ} {a : Binned} {q : List ℕ} → Sound edition p → id < edition .limit → PlaceSays p shape id a q
-    → ((a ≡ refusedBin 8) × (q ≡ p)) ⊎ ((a .number ≡ 0) × Outside (room edition (tilesOf p) (blocksOf p)) p q)
+placed-either : {p : List ℕ} {shape : Shape} {id : ℕ} {a : Binned} {q : List ℕ} → Sound (layoutOf p) p → id < edition .limit → PlaceSays p shape id a q
+    → ((a ≡ refusedBin 8) × (q ≡ p)) ⊎ ((a .number ≡ 0) × Outside (room (layoutOf p) (tilesOf p) (blocksOf p)) p q)
 placed-either S i (PlaceSays.no-room ts T l e f) = inl (e, f)
 placed-either {p} {shape} {id} {a} {q} S i (PlaceSays.done ts T l e f) =
-    inr (ap (λ (b : Binned). b .number) e, rw f (kept-outside (bin-appends S id i T l .kept)))
+    inr (ap (λ (b : Binned). b .number) e, rw f (kept-outside S (bin-appends S id i T l .kept)))
 
 number-of : {a : Binned} {n : ℕ} → a ≡ refusedBin n → a .number ≡ n
 number-of e = ap (λ (b : Binned). b .number) e
@@ -84,21 +84,21 @@ release-1 (ReleaseSays.damaged n e f) = refusal 4 (ap (λ (b : Released). b .num
 release-1 (ReleaseSays.no-tile S h e f) =
     refusal 9 (ap (λ (b : Released). b .number) e) (omega arith) (inr (inl refl)) (ap (λ (b : Released). b .blocks) e) f
 release-1 {p} {t} {a} {q} (ReleaseSays.done S h e f) =
-    acceptance (ap (λ (b : Released). b .number) e) (rw f (kept-outside (release-releases edition-fair S t h .kept)))
+    acceptance (ap (λ (b : Released). b .number) e) (rw f (kept-outside S (release-releases (layout-fair p) S t h .kept)))
 
 -- ---- the calls that are no part of a history
 
-pub demand-1-open : {p : List ℕ} {d : Screen} {blocks number : ℕ} {q : List ℕ} → OpenSays edition p d blocks number q → Demand1Open p d blocks number q
+pub demand-1-open : {L : Layout} {p : List ℕ} {d : Screen} {blocks number : ℕ} {q : List ℕ} → OpenSays L p d blocks number q → Demand1Open L p d blocks number q
 demand-1-open (OpenSays.bad-screen n e f) = record { number-is = inr (inl e); refused = λ _. f; accepted = λ z. absurd (omega arith) }
-demand-1-open (OpenSays.too-many s m e f) = record { number-is = inr (inr (inl e)); refused = λ _. f; accepted = λ z. absurd (omega arith) }
-demand-1-open (OpenSays.too-short s m l e f) = record { number-is = inr (inr (inr (inl e))); refused = λ _. f; accepted = λ z. absurd (omega arith) }
-demand-1-open {p} {d} {blocks} {number} {q} (OpenSays.done s m l e f) = record {
+demand-1-open (OpenSays.bad-blocks s m e f) = record { number-is = inr (inr (inl e)); refused = λ _. f; accepted = λ z. absurd (omega arith) }
+demand-1-open (OpenSays.too-short s m k l e f) = record { number-is = inr (inr (inr (inl e))); refused = λ _. f; accepted = λ z. absurd (omega arith) }
+demand-1-open {L} {p} {d} {blocks} {number} {q} (OpenSays.done s m k l e f) = record {
   number-is = inl e;
   refused = λ ne. absurd (ne e);
   accepted = λ _. rw f
       (record {
-        long = opening-length edition d blocks p (header-fits d blocks) l;
-        tail = opening-tail edition d blocks p (header-fits d blocks);
+        long = opening-length L d blocks p (header-fits k d blocks) l;
+        tail = opening-tail L d blocks p (header-fits k d blocks);
       });
 }
 

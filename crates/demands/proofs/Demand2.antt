@@ -12,10 +12,10 @@ use Rattle.snap.specs.declared.PixelShape.{PixelShape}
 use Rattle.snap.specs.declared.SnappedShape.{SnappedShape}
 use Rattle.snap.specs.Shapes.{shapeOf}
 use Rattle.snap.proofs.Shapes.{SixOrSeven, refused-six-or-seven, whole-in-range}
-use Rattle.pool.specs.Words.{edition, tileWord}
+use Rattle.pool.specs.Words.{Layout, edition, layoutOf, tileWord}
 use Rattle.pool.specs.State.{State, tileOf, times}
-use Rattle.pool.specs.Sound.{Sound, tilesOf}
-use Rattle.pool.proofs.Words.{edition-fair}
+use Rattle.pool.specs.Sound.{Shows, Sound, tilesOf, blocksOf}
+use Rattle.pool.proofs.Editions.{layout-known, layout-fair, known-poison}
 use Rattle.pool.proofs.Lists.{listOf-shows}
 use Rattle.pool.proofs.Unique.{state-unique}
 use Rattle.lists.specs.Releasing.{release}
@@ -28,7 +28,7 @@ use Rattle.calls.specs.Tables.{PlaceSays, BinSays, BinPixelsSays, ReleaseSays, 
 use Rattle.demands.specs.Demand2.{StaysSound, NoRoom, HasRoom, Listed, Demand2Bin, Demand2Pixels, Emptied, Demand2Release}
 use Rattle.demands.proofs.Touched.{touched-in, untouched-in}
 use Rattle.demands.proofs.OneOutcome.{bin-one-outcome, bin-pixels-one-outcome}
-use Rattle.demands.proofs.Accepted.{bin-appends, same-stays, kept-stays, kept-list}
+use Rattle.demands.proofs.Accepted.{bin-appends, same-stays, kept-layout, kept-stays, kept-list, kept-mark}
 
 -- ---- the last rows of both bins
 
@@ -49,21 +49,21 @@ module _ {p : List ℕ} {shape : Shape} {id : ℕ} {a : Binned} {q : List ℕ} w
   place-done i o (PlaceSays.no-room ts T l e f) z = other e z (omega arith)
   place-done i o (PlaceSays.done ts T l e f) z = (record { id< = i; in-range = o; ts = ts; touched = T }, l)
 
-  place-stays : Sound edition p → id < edition .limit → PlaceSays p shape id a q → StaysSound p q
+  place-stays : Sound (layoutOf p) p → id < edition .limit → PlaceSays p shape id a q → StaysSound p q
   place-stays S i (PlaceSays.no-room ts T l e f) = same-stays S f
   place-stays S i (PlaceSays.done ts T l e f) =
       let A = bin-appends S id i T l in
-      subst (λ (x : List ℕ). StaysSound p x) (sym f) (kept-stays (A .kept) (A .sound))
+      subst (λ (x : List ℕ). StaysSound p x) (sym f) (kept-stays S (A .kept) (A .sound))
 
-  place-listed : Sound edition p → id < edition .limit → PlaceSays p shape id a q → a .number ≡ 0 → Listed p shape id a q
+  place-listed : Sound (layoutOf p) p → id < edition .limit → PlaceSays p shape id a q → a .number ≡ 0 → Listed p shape id a q
   place-listed S i (PlaceSays.no-room ts T l e f) z = other e z (omega arith)
   place-listed S i (PlaceSays.done ts T l e f) z =
       let A = bin-appends S id i T l in
       subst (λ (x : List ℕ). Listed p shape id a x) (sym f)
       (record {
-        touched = λ t h k. kept-list (A .kept) t ∙ A .gains t (touched-in T t h k);
-        others = λ t h n. kept-list (A .kept) t ∙ A .others t h (untouched-in T t h n);
-        marks = λ t h. rw (kept-list (A .kept) t) (A .marks t h);
+        touched = λ t h k. kept-list S (A .kept) t ∙ A .gains t (touched-in T t h k);
+        others = λ t h n. kept-list S (A .kept) t ∙ A .others t h (untouched-in T t h n);
+        marks = λ t h. rw (kept-list S (A .kept) t, kept-mark S (A .kept) t) (A .marks t h);
         tiles = (ts, T, ap (λ (b : Binned). b .tiles) e);
         blocks = omega (arith, ap (λ (b : Binned). b .blocks) e, A .taken);
       })
@@ -71,7 +71,7 @@ module _ {p : List ℕ} {shape : Shape} {id : ℕ} {a : Binned} {q : List ℕ} w
 -- ---- bin of a shape in units
 
 module _ {p : List ℕ} {shape : Shape} {id : ℕ} {a : Binned} {q : List ℕ} where
-  bin-not-damaged : Sound edition p → BinSays p shape id a q → a .number ≢ 4
+  bin-not-damaged : Sound (layoutOf p) p → BinSays p shape id a q → a .number ≢ 4
   bin-not-damaged S (BinSays.damaged n e f) z = n S
   bin-not-damaged S (BinSays.bad-id S′ i e f) z = other e z (omega arith)
   bin-not-damaged S (BinSays.out-of-range S′ i o e f) z = other e z (omega arith)
@@ -101,7 +101,7 @@ module _ {p : List ℕ} {shape : Shape} {id : ℕ} {a : Binned} {q : List ℕ} w
   bin-done (BinSays.out-of-range S i o e f) z = other e z (omega arith)
   bin-done (BinSays.placed S i o w) z = (place-done i o w z, place-listed S i w z)
 
-  bin-stays : Sound edition p → BinSays p shape id a q → StaysSound p q
+  bin-stays : Sound (layoutOf p) p → BinSays p shape id a q → StaysSound p q
   bin-stays S (BinSays.damaged n e f) = same-stays S f
   bin-stays S (BinSays.bad-id S′ i e f) = same-stays S f
   bin-stays S (BinSays.out-of-range S′ i o e f) = same-stays S f
@@ -111,7 +111,7 @@ module _ {p : List ℕ} {shape : Shape} {id : ℕ} {a : Binned} {q : List ℕ} w
   bin-number : {b : Binned} {r : List ℕ} → BinSays p shape id a q → BinSays p shape id b r → a .number ≡ b .number
   bin-number B C = ap (λ (b : Binned). b .number) (bin-one-outcome B C .0)
 
-  pub demand-2-bin : Sound edition p → BinSays p shape id a q → Demand2Bin p shape id a q
+  pub demand-2-bin : Sound (layoutOf p) p → BinSays p shape id a q → Demand2Bin p shape id a q
   demand-2-bin S B = record {
     not-damaged = bin-not-damaged S B;
     bad-id = (bin-bad-id B, λ h. bin-number B (BinSays.bad-id S h refl refl));
@@ -137,7 +137,7 @@ offence-other shape {C} {a} {m} {n} o e z n6 n7 =
     ⊎-elim (λ (s : m ≡ 6). other e z (λ u. n6 (sym s ∙ u))) (λ (s : m ≡ 7). other e z (λ u. n7 (sym s ∙ u))) (refused-six-or-seven shape o)
 
 module _ {p : List ℕ} {shape : PixelShape} {id : ℕ} {a : Binned} {q : List ℕ} where
-  pixels-not-damaged : Sound edition p → BinPixelsSays p shape id a q → a .number ≢ 4
+  pixels-not-damaged : Sound (layoutOf p) p → BinPixelsSays p shape id a q → a .number ≢ 4
   pixels-not-damaged S (BinPixelsSays.damaged n e f) z = n S
   pixels-not-damaged S (BinPixelsSays.bad-id S′ i e f) z = other e z (omega arith)
   pixels-not-damaged S (BinPixelsSays.offence S′ i n o e f) z = offence-other shape o e z (omega arith) (omega arith)
@@ -149,7 +149,7 @@ module _ {p : List ℕ} {shape : PixelShape} {id : ℕ} {a : Binned} {q : List �
   pixels-bad-id (BinPixelsSays.offence S i n o e f) z = offence-other shape o e z (omega arith) (omega arith)
   pixels-bad-id (BinPixelsSays.placed S i whole o w) z = absurd (place-other w z (omega arith) (omega arith))
 
-  pixels-offence : Sound edition p → BinPixelsSays p shape id a q → (n : ℕ) → SixOrSeven n → a .number ≡ n
+  pixels-offence : Sound (layoutOf p) p → BinPixelsSays p shape id a q → (n : ℕ) → SixOrSeven n → a .number ≡ n
       → (id < edition .limit) × (shapeOf shape ≡ SnappedShape.Refused n)
   pixels-offence S (BinPixelsSays.damaged d e f) n s z = absurd (d S)
   pixels-offence S (BinPixelsSays.bad-id S′ i e f) n s z =
@@ -173,7 +173,7 @@ module _ {p : List ℕ} {shape : PixelShape} {id : ℕ} {a : Binned} {q : List �
   pixels-done (BinPixelsSays.offence S i n o e f) z = offence-other shape o e z (omega arith) (omega arith)
   pixels-done (BinPixelsSays.placed S i whole o w) z = (whole, o, place-done i (whole-in-range shape o) w z, place-listed S i w z)
 
-  pixels-stays : Sound edition p → BinPixelsSays p shape id a q → StaysSound p q
+  pixels-stays : Sound (layoutOf p) p → BinPixelsSays p shape id a q → StaysSound p q
   pixels-stays S (BinPixelsSays.damaged n e f) = same-stays S f
   pixels-stays S (BinPixelsSays.bad-id S′ i e f) = same-stays S f
   pixels-stays S (BinPixelsSays.offence S′ i n o e f) = same-stays S f
@@ -182,7 +182,7 @@ module _ {p : List ℕ} {shape : PixelShape} {id : ℕ} {a : Binned} {q : List �
   pixels-number : {b : Binned} {r : List ℕ} → BinPixelsSays p shape id a q → BinPixelsSays p shape id b r → a .number ≡ b .number
   pixels-number B C = ap (λ (b : Binned). b .number) (bin-pixels-one-outcome B C .0)
 
-  pub demand-2-pixels : Sound edition p → BinPixelsSays p shape id a q → Demand2Pixels p shape id a q
+  pub demand-2-pixels : Sound (layoutOf p) p → BinPixelsSays p shape id a q → Demand2Pixels p shape id a q
   demand-2-pixels S B = record {
     not-damaged = pixels-not-damaged S B;
     bad-id = (pixels-bad-id B, λ h. pixels-number B (BinPixelsSays.bad-id S h refl refl));
@@ -201,25 +201,27 @@ module _ {p : List ℕ} {shape : PixelShape} {id : ℕ} {a : Binned} {q : List �
 
 -- ---- release
 
-release-emptied : {p : List ℕ} (S : Sound edition p) (t : ℕ) (a : Released) → t < tilesOf p → a .blocks ≡ ceil (length (listIn p t)) (edition .ids)
-    → Emptied p S t a (release edition (tilesOf p) p t)
+release-emptied : {p : List ℕ} (S : Sound (layoutOf p) p) (t : ℕ) (a : Released) → t < tilesOf p → a .blocks ≡ ceil (length (listIn p t)) (layoutOf p .ids)
+    → Emptied p S t a (release (layoutOf p) (tilesOf p) p t)
 release-emptied {p} S t a h e =
-    let E = release-releases edition-fair S t h in
-    let entries : tileWord edition p t 0 ≡ length (listIn p t)
-    = S .shows .tile t h .entries ∙ ap length (sym (listOf-shows edition-fair (S .shows) t h)) in
+    let q = release (layoutOf p) (tilesOf p) p t in
+    let E = release-releases (layout-fair p) S t h in
+    let entries : tileWord (layoutOf p) p t 0 ≡ length (listIn p t)
+    = S .shows .tile t h .entries ∙ ap length (sym (listOf-shows (layout-fair p) (S .shows) t h)) in
     record {
-      emptied = kept-list (E .kept) t ∙ E .emptied;
-      others = λ u hu ne. kept-list (E .kept) u ∙ E .others u hu ne;
-      marks = E .marks;
+      emptied = kept-list S (E .kept) t ∙ E .emptied;
+      others = λ u hu ne. kept-list S (E .kept) u ∙ E .others u hu ne;
+      marks = λ u hu. kept-mark S (E .kept) u ∙ E .marks u hu;
       count = e;
-      given = omega (arith, E .given, ap (λ (n : ℕ). ceil n (edition .ids)) entries);
+      given = omega (arith, E .given, ap (λ (n : ℕ). ceil n (layoutOf p .ids)) entries);
       free = λ R b hb.
-          let same : R .state ≡ releaseState (S .state) t = state-unique edition-fair (R .shows) (E .sound .shows) ∙ E .says in
+          let shows = subst (λ (L : Layout). Shows L (tilesOf q) (blocksOf q) q (R .state)) (kept-layout S (E .kept)) (R .shows) in
+          let same : R .state ≡ releaseState (S .state) t = state-unique (layout-fair p) shows (E .sound .shows) ∙ E .says in
           subst (λ (s : State). 0 < times b (s .free)) (sym same) (omega (arith, times-onto b (tileOf (S .state) t .blocks) (S .state .free)));
-      poisoned = E .poisoned;
+      poisoned = λ b hb k hk. E .poisoned b hb k hk ∙ known-poison (layout-known p);
     }
 
-module _ {p : List ℕ} (S : Sound edition p) {t : ℕ} {a : Released} {q : List ℕ} where
+module _ {p : List ℕ} (S : Sound (layoutOf p) p) {t : ℕ} {a : Released} {q : List ℕ} where
   pub demand-2-release : ReleaseSays p t a q → Demand2Release p S t a q
   demand-2-release (ReleaseSays.damaged n e f) = absurd (n S)
   demand-2-release (ReleaseSays.no-tile S′ h e f) =
@@ -232,11 +234,11 @@ module _ {p : List ℕ} (S : Sound edition p) {t : ℕ} {a : Released} {q : List
       }
   demand-2-release (ReleaseSays.done S′ h e f) =
       let zero-is = ap (λ (b : Released). b .number) e in
-      let E = release-releases edition-fair S t h in
+      let E = release-releases (layout-fair p) S t h in
       subst (λ (x : List ℕ). Demand2Release p S t a x) (sym f)
       (record {
         no-tile = ((λ z. absurd (omega arith)), (λ k. absurd (omega arith)));
         done = (λ _. h, λ _. zero-is);
         emptied = λ _. release-emptied S t a h (ap (λ (b : Released). b .blocks) e);
-        stays = kept-stays (E .kept) (E .sound);
+        stays = kept-stays S (E .kept) (E .sound);
       })

@@ -12,3 +12,4 @@ pub mod Demand3
 pub mod HighWater
 pub mod Sizing
 pub mod OldLayout
+pub mod Editions

@@ -13,7 +13,7 @@ use Rattle.shape.specs.declared.Shape.{Shape}
 use Rattle.touch.specs.Touches.{Touches}
 use Rattle.snap.specs.declared.SnappedShape.{SnappedShape}
 use Rattle.snap.specs.Shapes.{shapeOf}
-use Rattle.pool.specs.Words.{edition}
+use Rattle.pool.specs.Words.{layoutOf}
 use Rattle.pool.specs.Sound.{Sound, screenOf, tilesOf}
 use Rattle.calls.specs.declared.Binned.{Binned}
 use Rattle.calls.specs.declared.Released.{Released}
@@ -48,13 +48,13 @@ module _ {p : List ℕ} {t : ℕ} (ht : t < tilesOf p) {q : List ℕ} where
       (λ (n : Touches shape (rectangle (screenOf p) t) → ⊥). inr (n, L .others t ht n))
       (touched-or-not (L .tiles .1) t ht)
 
-  emptied-becomes : {S : Sound edition p} {u : ℕ} {a : Released} → Emptied p S u a q → Becomes (screenOf p) t (empties u) (listIn p t) (listIn q t)
+  emptied-becomes : {S : Sound (layoutOf p) p} {u : ℕ} {a : Released} → Emptied p S u a q → Becomes (screenOf p) t (empties u) (listIn p t) (listIn q t)
   emptied-becomes {S} {u} {a} E =
       ⊎-elim (λ (e : u ≡ t). inl (e, subst (λ (v : ℕ). listIn q v ≡ []) e (E .emptied)))
       (λ (ne : u ≢ t). inr (ne, E .others t ht (λ z. ne (sym z))))
       (eq-or-ne u t)
 
-step-becomes : (p : List ℕ) (e : Entry) (q : List ℕ) → Sound edition p → Step p e q → (t : ℕ) → t < tilesOf p
+step-becomes : (p : List ℕ) (e : Entry) (q : List ℕ) → Sound (layoutOf p) p → Step p e q → (t : ℕ) → t < tilesOf p
     → Becomes (screenOf p) t (effectOf e) (listIn p t) (listIn q t)
 step-becomes p e q S s t ht = go e s (λ ne. ap (λ (x : List ℕ). listIn x t) (demand-1 p e q s .refused ne .0))
   where
@@ -88,7 +88,7 @@ history-says-one-list d t (e ∷ h) xs ys a b =
     let before = history-says-one-list d t h (a .0) (b .0) (a .1) (b .1) in
     becomes-one d t (effectOf e) (a .0) xs ys (a .2) (subst (λ (l : List ℕ). Becomes d t (effectOf e) l ys) (sym before) (b .2))
 
-pub lists-are-listed : (d : Screen) (p : List ℕ) → Sound edition p → screenOf p ≡ d → ((t : ℕ) → t < tiles d → listIn p t ≡ [])
+pub lists-are-listed : (d : Screen) (p : List ℕ) → Sound (layoutOf p) p → screenOf p ≡ d → ((t : ℕ) → t < tiles d → listIn p t ≡ [])
     → (h : List Entry) (q : List ℕ) → Run p h q → (t : ℕ) → t < tiles d → ListedBy d t h (listIn q t)
 lists-are-listed d p S screen none [] q r t ht = ap (λ (x : List ℕ). listIn x t) r ∙ none t ht
 lists-are-listed d p S screen none (e ∷ h) q r t ht =

@@ -1,13 +1,14 @@
 -- A pool of three words a tile is not sound: its word 7 is that of another layout. And where a pool is not sound, every call answers 4.
-use mathlib.Core.Path.{_≡_, ap}
+use mathlib.Core.Path.{_≡_, ap, subst}
 use mathlib.Core.List.{List}
 use Prim.Native.Nat.{ℕ, _*_, _≤_, _<_}
 use native.Mathlib.Nat.{mul-le-mul-left}
 use native.Mathlib.Omega.{arith}
 use Rattle.screen.specs.Screen.{columns, rows}
 use Rattle.screen.proofs.Laws.{columns≥, rows≥}
-use Rattle.pool.specs.Words.{edition, start}
+use Rattle.pool.specs.Words.{Layout, edition, layoutOf, start}
 use Rattle.pool.specs.Sound.{Opened, Sound, screenOf, tilesOf}
+use Rattle.pool.proofs.Editions.{layout-one}
 use Rattle.calls.specs.declared.Binned.{Binned}
 use Rattle.calls.specs.declared.Released.{Released}
 use Rattle.calls.specs.declared.Found.{Found}
@@ -16,15 +17,16 @@ use Rattle.calls.specs.Tables.{AuditSays, BinSays, BinPixelsSays, ReadSays, Hig
 use Rattle.demands.specs.History.{Entry, binned, binned-pixels, found, released, numberOf, Step}
 use Rattle.demands.specs.OldLayout.{unmarked, OldLayoutAnswers4}
 
-old-unsound : {p : List ℕ} → Opened unmarked p → Sound edition p → ⊥
+old-unsound : {p : List ℕ} → Opened unmarked p → Sound (layoutOf p) p → ⊥
 unfolding start
 old-unsound {p} O S =
+    let T : Sound edition p = subst (λ (L : Layout). Sound L p) (layout-one p (λ z. omega (arith, O .table-at))) S in
     let c : 0 < columns (screenOf p) = columns≥ (screenOf p) (O .screen) in
     let r : 0 < rows (screenOf p) = rows≥ (screenOf p) (O .screen) in
     let some : columns (screenOf p) * 1 ≤ tilesOf p = mul-le-mul-left (columns (screenOf p)) r in
-    omega (arith, O .blocks-at, S .opened .blocks-at)
+    omega (arith, O .blocks-at, T .opened .blocks-at)
 
-module _ {p : List ℕ} (n : Sound edition p → ⊥) where
+module _ {p : List ℕ} (n : Sound (layoutOf p) p → ⊥) where
   audit-4 : {number : ℕ} → AuditSays p number → number ≡ 4
   audit-4 (AuditSays.damaged d e) = e
   audit-4 (AuditSays.done S e) = absurd (n S)

@@ -1,15 +1,16 @@
 -- Each public contract admits one outcome only: two that meet it are equal, in every field of the answer and in every word that is left.
 use mathlib.Core.Path.{_≡_, refl, ap}
+use mathlib.Core.Logic.{_⊎_, inl, inr}
 use mathlib.Core.Bool.{Bool, true, false}
 use mathlib.Core.List.{List}
-use Prim.Native.Nat.{ℕ}
+use Prim.Native.Nat.{ℕ, _≤_, _<_}
 use native.Mathlib.Omega.{arith}
 use Rattle.numbers.specs.Says.{Says}
 use Rattle.screen.specs.declared.Screen.{Screen}
 use Rattle.shape.specs.declared.Shape.{Shape}
 use Rattle.snap.specs.declared.PixelShape.{PixelShape}
 use Rattle.snap.specs.declared.SnappedShape.{SnappedShape}
-use Rattle.pool.specs.Words.{edition}
+use Rattle.pool.specs.Words.{Layout, Known, layoutOf}
 use Rattle.lists.specs.Appending.{need}
 use Rattle.calls.specs.declared.Binned.{Binned}
 use Rattle.calls.specs.declared.Released.{Released}
@@ -21,23 +22,28 @@ use Rattle.calls.specs.Tables.{AuditSays, PlaceSays, BinSays, BinPixelsSays, Re
 use Rattle.calls.specs.Questions.{RefusedWith, InOrder, TouchSays, BoxSays, CornerSays}
 use Rattle.walk.proofs.Touched.{touched-tiles-unique}
 
-pub open-one-outcome : {p : List ℕ} {d : Screen} {blocks a b : ℕ} {q r : List ℕ} → OpenSays edition p d blocks a q → OpenSays edition p d blocks b r → (a ≡ b) × (q ≡ r)
+-- the blocks are as they may be, or there is a cause for 2
+bad-or-good : {L : Layout} {blocks : ℕ} → (2048 < blocks) ⊎ (Known L → ⊥) → blocks ≤ 2048 → Known L → ⊥
+bad-or-good (inl m) h k = omega arith
+bad-or-good (inr n) h k = n k
+
+pub open-one-outcome : {L : Layout} {p : List ℕ} {d : Screen} {blocks a b : ℕ} {q r : List ℕ} → OpenSays L p d blocks a q → OpenSays L p d blocks b r → (a ≡ b) × (q ≡ r)
 open-one-outcome (OpenSays.bad-screen n e f) (OpenSays.bad-screen n′ e′ f′) = (cc, cc)
-open-one-outcome (OpenSays.bad-screen n e f) (OpenSays.too-many s′ m′ e′ f′) = absurd (n s′)
-open-one-outcome (OpenSays.bad-screen n e f) (OpenSays.too-short s′ m′ l′ e′ f′) = absurd (n s′)
-open-one-outcome (OpenSays.bad-screen n e f) (OpenSays.done s′ m′ l′ e′ f′) = absurd (n s′)
-open-one-outcome (OpenSays.too-many s m e f) (OpenSays.bad-screen n′ e′ f′) = absurd (n′ s)
-open-one-outcome (OpenSays.too-many s m e f) (OpenSays.too-many s′ m′ e′ f′) = (cc, cc)
-open-one-outcome (OpenSays.too-many s m e f) (OpenSays.too-short s′ m′ l′ e′ f′) = absurd (omega arith)
-open-one-outcome (OpenSays.too-many s m e f) (OpenSays.done s′ m′ l′ e′ f′) = absurd (omega arith)
-open-one-outcome (OpenSays.too-short s m l e f) (OpenSays.bad-screen n′ e′ f′) = absurd (n′ s)
-open-one-outcome (OpenSays.too-short s m l e f) (OpenSays.too-many s′ m′ e′ f′) = absurd (omega arith)
-open-one-outcome (OpenSays.too-short s m l e f) (OpenSays.too-short s′ m′ l′ e′ f′) = (cc, cc)
-open-one-outcome (OpenSays.too-short s m l e f) (OpenSays.done s′ m′ l′ e′ f′) = absurd (omega arith)
-open-one-outcome (OpenSays.done s m l e f) (OpenSays.bad-screen n′ e′ f′) = absurd (n′ s)
-open-one-outcome (OpenSays.done s m l e f) (OpenSays.too-many s′ m′ e′ f′) = absurd (omega arith)
-open-one-outcome (OpenSays.done s m l e f) (OpenSays.too-short s′ m′ l′ e′ f′) = absurd (omega arith)
-open-one-outcome (OpenSays.done s m l e f) (OpenSays.done s′ m′ l′ e′ f′) = (cc, cc)
+open-one-outcome (OpenSays.bad-screen n e f) (OpenSays.bad-blocks s′ m′ e′ f′) = absurd (n s′)
+open-one-outcome (OpenSays.bad-screen n e f) (OpenSays.too-short s′ m′ k′ l′ e′ f′) = absurd (n s′)
+open-one-outcome (OpenSays.bad-screen n e f) (OpenSays.done s′ m′ k′ l′ e′ f′) = absurd (n s′)
+open-one-outcome (OpenSays.bad-blocks s m e f) (OpenSays.bad-screen n′ e′ f′) = absurd (n′ s)
+open-one-outcome (OpenSays.bad-blocks s m e f) (OpenSays.bad-blocks s′ m′ e′ f′) = (cc, cc)
+open-one-outcome (OpenSays.bad-blocks s m e f) (OpenSays.too-short s′ m′ k′ l′ e′ f′) = absurd (bad-or-good m m′ k′)
+open-one-outcome (OpenSays.bad-blocks s m e f) (OpenSays.done s′ m′ k′ l′ e′ f′) = absurd (bad-or-good m m′ k′)
+open-one-outcome (OpenSays.too-short s m k l e f) (OpenSays.bad-screen n′ e′ f′) = absurd (n′ s)
+open-one-outcome (OpenSays.too-short s m k l e f) (OpenSays.bad-blocks s′ m′ e′ f′) = absurd (bad-or-good m′ m k)
+open-one-outcome (OpenSays.too-short s m k l e f) (OpenSays.too-short s′ m′ k′ l′ e′ f′) = (cc, cc)
+open-one-outcome (OpenSays.too-short s m k l e f) (OpenSays.done s′ m′ k′ l′ e′ f′) = absurd (omega arith)
+open-one-outcome (OpenSays.done s m k l e f) (OpenSays.bad-screen n′ e′ f′) = absurd (n′ s)
+open-one-outcome (OpenSays.done s m k l e f) (OpenSays.bad-blocks s′ m′ e′ f′) = absurd (bad-or-good m′ m k)
+open-one-outcome (OpenSays.done s m k l e f) (OpenSays.too-short s′ m′ k′ l′ e′ f′) = absurd (omega arith)
+open-one-outcome (OpenSays.done s m k l e f) (OpenSays.done s′ m′ k′ l′ e′ f′) = (cc, cc)
 
 pub audit-one-outcome : {p : List ℕ} {a b : ℕ} → AuditSays p a → AuditSays p b → a ≡ b
 audit-one-outcome (AuditSays.damaged n e) (AuditSays.damaged n′ e′) = cc
@@ -60,8 +66,8 @@ high-water-one-outcome (HighWaterSays.done s h e) (HighWaterSays.done s′ h′ 
 
 place-one-outcome : {p : List ℕ} {shape : Shape} {id : ℕ} {a b : Binned} {q r : List ℕ} → PlaceSays p shape id a q → PlaceSays p shape id b r → (a ≡ b) × (q ≡ r)
 place-one-outcome (PlaceSays.no-room ts t l e f) (PlaceSays.no-room ts′ t′ l′ e′ f′) = (cc, cc)
-place-one-outcome {p} (PlaceSays.no-room ts t l e f) (PlaceSays.done ts′ t′ l′ e′ f′) = absurd (omega (arith, ap (need edition p) (touched-tiles-unique t t′)))
-place-one-outcome {p} (PlaceSays.done ts t l e f) (PlaceSays.no-room ts′ t′ l′ e′ f′) = absurd (omega (arith, ap (need edition p) (touched-tiles-unique t t′)))
+place-one-outcome {p} (PlaceSays.no-room ts t l e f) (PlaceSays.done ts′ t′ l′ e′ f′) = absurd (omega (arith, ap (need (layoutOf p) p) (touched-tiles-unique t t′)))
+place-one-outcome {p} (PlaceSays.done ts t l e f) (PlaceSays.no-room ts′ t′ l′ e′ f′) = absurd (omega (arith, ap (need (layoutOf p) p) (touched-tiles-unique t t′)))
 place-one-outcome (PlaceSays.done ts t l e f) (PlaceSays.done ts′ t′ l′ e′ f′) = let u = touched-tiles-unique t t′ in (cc, cc)
 
 pub bin-one-outcome : {p : List ℕ} {shape : Shape} {id : ℕ} {a b : Binned} {q r : List ℕ} → BinSays p shape id a q → BinSays p shape id b r → (a ≡ b) × (q ≡ r)

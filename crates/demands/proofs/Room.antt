@@ -1,25 +1,25 @@
 -- The words past the room do not matter: the second slice can be answered as the first was, and is then left with the same words in the room; and a contract
 -- admits one outcome only.
-use mathlib.Core.Path.{_≡_, refl, sym, ap, subst, _∙_}
+use mathlib.Core.Path.{_≡_, refl, sym, ap, ap₂, subst, _∙_}
 use mathlib.Core.Logic.{_↔_}
 use mathlib.Core.List.{List, [], _∷_}
 use Prim.Native.Nat.{ℕ, _≤_, _<_}
 use native.Mathlib.Omega.{arith}
 use lib.ListN.{length}
 use Rattle.screen.specs.declared.Screen.{Screen}
-use Rattle.screen.specs.Screen.{tiles}
+use Rattle.screen.specs.Screen.{Allowed, tiles}
 use Rattle.shape.specs.declared.Shape.{Shape}
 use Rattle.snap.specs.declared.PixelShape.{PixelShape}
 use Rattle.walk.specs.Touched.{TouchedTiles}
-use Rattle.pool.specs.Words.{edition, room}
+use Rattle.pool.specs.Words.{Layout, Known, edition, layoutOf, room}
 use Rattle.pool.specs.Sound.{Sound, screenOf, tilesOf, blocksOf}
 use Rattle.pool.specs.Lists.{listOf}
 use Rattle.pool.specs.Opening.{opening, OpenSays}
-use Rattle.pool.proofs.Words.{edition-fair}
+use Rattle.pool.proofs.Editions.{layout-known, layout-fair, known-fair, known-limit, opened-layout, keeps-layout}
 use Rattle.pool.proofs.Lists.{listOf-shows}
-use Rattle.pool.proofs.Header.{keeps-tiles, keeps-blocks}
-use Rattle.pool.proofs.Opening.{header-fits, opening-length, opening-tiles, opening-blocks}
-use Rattle.pool.proofs.Room.{Agree, header-agrees, tile-agrees, agree-shows, agree-screen, agree-tiles, agree-room, agree-sound, opening-agrees}
+use Rattle.pool.proofs.Header.{Keeps, keeps-tiles, keeps-blocks}
+use Rattle.pool.proofs.Opening.{header-fits, opening-length, opening-tiles, opening-blocks, opening-opened}
+use Rattle.pool.proofs.Room.{Agree, header-agrees, tile-agrees, agree-shows, agree-layout, agree-screen, agree-tiles, agree-room, agree-sound, opening-agrees}
 use Rattle.lists.specs.Appending.{need, appendAll, Distinct}
 use Rattle.lists.specs.Releasing.{release}
 use Rattle.lists.proofs.Counts.{need-shows}
@@ -41,21 +41,24 @@ use Rattle.demands.proofs.Runs.{runs-one-outcome}
 
 -- ---- two slices with the same room
 
-agree : {p w : List ℕ} → SameRoom p w → Agree edition (tilesOf p) (blocksOf p) p w
+agree : {p w : List ℕ} → SameRoom p w → Agree (layoutOf p) (tilesOf p) (blocksOf p) p w
 agree S = record { words = λ i h. S .words i (omega arith) }
 
-same-sound : {p w : List ℕ} → SameRoom p w → Sound edition p → Sound edition w
-same-sound S P = agree-sound edition-fair (agree S) (S .long .0 (P .opened .long)) P
+layout-same : {p w : List ℕ} → SameRoom p w → layoutOf w ≡ layoutOf p
+layout-same S = agree-layout (agree S)
+
+same-sound : {p w : List ℕ} → SameRoom p w → Sound (layoutOf p) p → Sound (layoutOf w) w
+same-sound {p} S P = rw (layout-same S) (agree-sound (layout-fair p) (agree S) (S .long .0 (P .opened .long)) P)
 
 same-sym : {p w : List ℕ} → SameRoom p w → SameRoom w p
 same-sym {p} {w} S =
-    let e : roomOf w ≡ roomOf p = agree-room edition-fair (agree S) in
+    let e : roomOf w ≡ roomOf p = ap (λ (L : Layout). room L (tilesOf w) (blocksOf w)) (layout-same S) ∙ agree-room (layout-fair p) (agree S) in
     record { words = λ i h. sym (S .words i (omega arith)); long = rw e (S .long .1, S .long .0) }
 
--- it is the room of T tiles and N blocks
-same-in : {T N : ℕ} {p w : List ℕ} → tilesOf p ≡ T → blocksOf p ≡ N → Together edition T N p w → SameRoom p w
-same-in {T} {N} {p} {w} et en G =
-    let e : roomOf p ≡ room edition T N = (λ i. room edition (et i) (en i)) in
+-- it is the room of a layout, of T tiles and N blocks
+same-in : {L : Layout} {T N : ℕ} {p w : List ℕ} → layoutOf p ≡ L → tilesOf p ≡ T → blocksOf p ≡ N → Together L T N p w → SameRoom p w
+same-in {L} {T} {N} {p} {w} el et en G =
+    let e : roomOf p ≡ room L T N = (λ i. room (el i) (et i) (en i)) in
     record { words = λ i h. G .agree .words i (omega arith); long = omega arith }
 
 -- ---- the calls, row by row
@@ -65,23 +68,26 @@ abbrev Follows : (Says : List ℕ → Type 0) (q : List ℕ) → Type 0
 Follows Says q = (v : List ℕ) × Says v × SameRoom q v
 
 module _ {p w : List ℕ} (S : SameRoom p w) where
-  sound : Sound edition p → Sound edition w
+  same : layoutOf w ≡ layoutOf p
+  same = layout-same S
+
+  sound : Sound (layoutOf p) p → Sound (layoutOf w) w
   sound = same-sound S
 
-  unsound : (Sound edition p → ⊥) → Sound edition w → ⊥
+  unsound : (Sound (layoutOf p) p → ⊥) → Sound (layoutOf w) w → ⊥
   unsound n P = n (same-sound (same-sym S) P)
 
   tiles-same : tilesOf w ≡ tilesOf p
-  tiles-same = agree-tiles edition-fair (agree S)
+  tiles-same = agree-tiles (layout-fair p) (agree S)
 
   free-same : freeIn w ≡ freeIn p
-  free-same = header-agrees (agree S) 4 (omega arith)
+  free-same = header-agrees (agree S) 4 (omega (arith, layout-fair p .header>))
 
-  need-same : {ts : List ℕ} → Distinct (tilesOf p) ts → need edition w ts ≡ need edition p ts
-  need-same {ts} D = need-kept edition p w ts (λ u h. tile-agrees (agree S) u 0 (D .below u h) (omega arith))
+  need-same : {ts : List ℕ} → Distinct (tilesOf p) ts → need (layoutOf w) w ts ≡ need (layoutOf p) p ts
+  need-same {ts} D = rw same (need-kept (layoutOf p) p w ts (λ u h. tile-agrees (agree S) u 0 (D .below u h) (omega (arith, layout-fair p .tile>))))
 
   touched-same : {shape : Shape} {ts : List ℕ} → TouchedTiles (screenOf p) shape ts → TouchedTiles (screenOf w) shape ts
-  touched-same {shape} {ts} T = subst (λ (d : Screen). TouchedTiles d shape ts) (sym (agree-screen edition-fair (agree S))) T
+  touched-same {shape} {ts} T = subst (λ (d : Screen). TouchedTiles d shape ts) (sym (agree-screen (layout-fair p) (agree S))) T
 
   -- where the first slice is left as it was, so is the second
   unchanged : {q : List ℕ} (Says : List ℕ → Type 0) → q ≡ p → Says w → Follows Says q
@@ -95,39 +101,43 @@ module _ {p w : List ℕ} (S : SameRoom p w) where
   high-water-follows (HighWaterSays.damaged n e) = HighWaterSays.damaged (unsound n) e
   high-water-follows (HighWaterSays.no-tile P h e) = HighWaterSays.no-tile (sound P) (rw tiles-same h) e
   high-water-follows {t} {a} (HighWaterSays.done P h e) =
-      HighWaterSays.done (sound P) (rw tiles-same h) (rw (tile-agrees (agree S) t 3 h (omega arith)) e)
+      HighWaterSays.done (sound P) (rw tiles-same h) (rw (same, tile-agrees (agree S) t 3 h (layout-fair p .tile>)) e)
 
-  module _ (P : Sound edition p) where
-    together : Together edition (tilesOf p) (blocksOf p) p w
+  module _ (P : Sound (layoutOf p) p) where
+    together : Together (layoutOf p) (tilesOf p) (blocksOf p) p w
     together = record { long = P .opened .long; long′ = S .long .0 (P .opened .long); agree = agree S }
 
     lists-same : (t : ℕ) → t < tilesOf p → listIn w t ≡ listIn p t
     lists-same t ht =
-        ap (λ (T : ℕ). listOf edition T w t) tiles-same
-        ∙ listOf-shows edition-fair (agree-shows (agree S) edition-fair (P .shows)) t ht
-        ∙ sym (listOf-shows edition-fair (P .shows) t ht)
+        ap₂ (λ (L : Layout) (T : ℕ). listOf L T w t) same tiles-same
+        ∙ listOf-shows (layout-fair p) (agree-shows (agree S) (layout-fair p) (P .shows)) t ht
+        ∙ sym (listOf-shows (layout-fair p) (P .shows) t ht)
 
-    appended-same : {shape : Shape} {ts : List ℕ} (id : ℕ) → id < edition .limit → TouchedTiles (screenOf p) shape ts → need edition p ts ≤ freeIn p
-        → SameRoom (appendAll edition (tilesOf p) p ts id) (appendAll edition (tilesOf w) w ts id)
+    -- what keeps the fixed words of p is left in the same room
+    kept-same : {q v : List ℕ} → Keeps (layoutOf p) p q → Together (layoutOf p) (tilesOf p) (blocksOf p) q v → SameRoom q v
+    kept-same K G = same-in (keeps-layout (layout-known p) (P .opened) K) (keeps-tiles (layout-fair p) K) (keeps-blocks (layout-fair p) K) G
+
+    appended-same : {shape : Shape} {ts : List ℕ} (id : ℕ) → id < edition .limit → TouchedTiles (screenOf p) shape ts → need (layoutOf p) p ts ≤ freeIn p
+        → SameRoom (appendAll (layoutOf p) (tilesOf p) p ts id) (appendAll (layoutOf w) (tilesOf w) w ts id)
     appended-same {shape} {ts} id i T l =
         let D = touched-distinct T in
-        let K = kept-keeps (bin-appends P id i T l .kept) in
-        rw tiles-same
-        (same-in (keeps-tiles edition-fair K) (keeps-blocks edition-fair K)
-        (append-all-together edition-fair id i ts together (P .shows) D (omega (arith, need-shows (P .shows) ts (D .below), P .shows .count))))
+        rw (same, tiles-same)
+        (kept-same (kept-keeps (bin-appends P id i T l .kept))
+        (append-all-together (layout-fair p) id (omega (arith, known-limit (layout-known p))) ts together (P .shows) D
+        (omega (arith, need-shows (P .shows) ts (D .below), P .shows .count))))
 
-    released-same : (t : ℕ) → t < tilesOf p → SameRoom (release edition (tilesOf p) p t) (release edition (tilesOf w) w t)
+    released-same : (t : ℕ) → t < tilesOf p → SameRoom (release (layoutOf p) (tilesOf p) p t) (release (layoutOf w) (tilesOf w) w t)
     released-same t ht =
-        let K = kept-keeps (release-releases edition-fair P t ht .kept) in
-        rw tiles-same (same-in (keeps-tiles edition-fair K) (keeps-blocks edition-fair K) (release-together edition-fair together (P .shows) t ht))
+        rw (same, tiles-same)
+        (kept-same (kept-keeps (release-releases (layout-fair p) P t ht .kept)) (release-together (layout-fair p) together (P .shows) t ht))
 
-  place-follows : {shape : Shape} {id : ℕ} {a : Binned} {q : List ℕ} → Sound edition p → id < edition .limit → PlaceSays p shape id a q
+  place-follows : {shape : Shape} {id : ℕ} {a : Binned} {q : List ℕ} → Sound (layoutOf p) p → id < edition .limit → PlaceSays p shape id a q
       → Follows (λ v. PlaceSays w shape id a v) q
   place-follows P i (PlaceSays.no-room ts T l e f) =
       unchanged _ f (PlaceSays.no-room ts (touched-same T) (omega (arith, need-same (touched-distinct T), free-same)) e refl)
   place-follows {id = id} P i (PlaceSays.done ts T l e f) =
-      let same = need-same (touched-distinct T) in
-      (appendAll edition (tilesOf w) w ts id, PlaceSays.done ts (touched-same T) (omega (arith, free-same)) (rw same e) refl, rw f (appended-same P id i T l))
+      let needs = need-same (touched-distinct T) in
+      (appendAll (layoutOf w) (tilesOf w) w ts id, PlaceSays.done ts (touched-same T) (omega (arith, free-same)) (rw needs e) refl, rw f (appended-same P id i T l))
 
   bin-follows : {shape : Shape} {id : ℕ} {a : Binned} {q : List ℕ} → BinSays p shape id a q → Follows (λ v. BinSays w shape id a v) q
   bin-follows (BinSays.damaged n e f) = unchanged _ f (BinSays.damaged (unsound n) e refl)
@@ -151,7 +161,7 @@ module _ {p w : List ℕ} (S : SameRoom p w) where
   release-follows (ReleaseSays.damaged n e f) = unchanged _ f (ReleaseSays.damaged (unsound n) e refl)
   release-follows (ReleaseSays.no-tile P h e f) = unchanged _ f (ReleaseSays.no-tile (sound P) (rw tiles-same h) e refl)
   release-follows {t} {a} {q} (ReleaseSays.done P h e f) =
-      (release edition (tilesOf w) w t, ReleaseSays.done (sound P) (rw tiles-same h) (rw (lists-same P t h) e) refl, rw f (released-same P t h))
+      (release (layoutOf w) (tilesOf w) w t, ReleaseSays.done (sound P) (rw tiles-same h) (rw (lists-same P t h, same) e) refl, rw f (released-same P t h))
 
   step-follows : (e : Entry) (q : List ℕ) → Step p e q → Follows (λ v. Step w e v) q
   step-follows (binned shape id a) q k = bin-follows k
@@ -168,24 +178,25 @@ run-follows S (e ∷ h) q r =
 
 -- ---- an opening
 
-module _ (p w : List ℕ) (d : Screen) (N : ℕ) (both : (room edition (tiles d) N ≤ length p) ↔ (room edition (tiles d) N ≤ length w)) where
-  openings-same : room edition (tiles d) N ≤ length p → SameRoom (opening edition d N p) (opening edition d N w)
-  openings-same l =
-      let fits = header-fits d N in
-      same-in (opening-tiles edition d N p fits edition-fair) (opening-blocks edition d N p fits edition-fair)
+module _ {L : Layout} (p w : List ℕ) (d : Screen) (N : ℕ) (both : (room L (tiles d) N ≤ length p) ↔ (room L (tiles d) N ≤ length w)) where
+  openings-same : Known L → Allowed d → N ≤ 2048 → room L (tiles d) N ≤ length p → SameRoom (opening L d N p) (opening L d N w)
+  openings-same k s m l =
+      let fits = header-fits k d N in
+      let A = known-fair k in
+      same-in (opened-layout k (opening-opened L d N p fits A s m l)) (opening-tiles L d N p fits A) (opening-blocks L d N p fits A)
       (record {
-        long = rw (opening-length edition d N p fits l) l;
-        long′ = rw (opening-length edition d N w fits (both .0 l)) (both .0 l);
-        agree = opening-agrees edition d N fits p w;
+        long = rw (opening-length L d N p fits l) l;
+        long′ = rw (opening-length L d N w fits (both .0 l)) (both .0 l);
+        agree = opening-agrees L d N fits p w;
       })
 
-  open-follows : {a : ℕ} {q : List ℕ} → OpenSays edition p d N a q → (v : List ℕ) × OpenSays edition w d N a v × (a ≡ 0 → SameRoom q v)
+  open-follows : {a : ℕ} {q : List ℕ} → OpenSays L p d N a q → (v : List ℕ) × OpenSays L w d N a v × (a ≡ 0 → SameRoom q v)
   open-follows (OpenSays.bad-screen n e f) = (w, OpenSays.bad-screen n e refl, λ z. absurd (omega arith))
-  open-follows (OpenSays.too-many s m e f) = (w, OpenSays.too-many s m e refl, λ z. absurd (omega arith))
-  open-follows (OpenSays.too-short s m l e f) =
-      let short : room edition (tiles d) N ≤ length w → ⊥ = (λ k. omega (arith, both .1 k)) in
-      (w, OpenSays.too-short s m (omega arith) e refl, λ z. absurd (omega arith))
-  open-follows (OpenSays.done s m l e f) = (opening edition d N w, OpenSays.done s m (both .0 l) e refl, λ z. rw f (openings-same l))
+  open-follows (OpenSays.bad-blocks s m e f) = (w, OpenSays.bad-blocks s m e refl, λ z. absurd (omega arith))
+  open-follows (OpenSays.too-short s m k l e f) =
+      let short : room L (tiles d) N ≤ length w → ⊥ = (λ h. omega (arith, both .1 h)) in
+      (w, OpenSays.too-short s m k (omega arith) e refl, λ z. absurd (omega arith))
+  open-follows (OpenSays.done s m k l e f) = (opening L d N w, OpenSays.done s m k (both .0 l) e refl, λ z. rw f (openings-same k s m l))
 
 -- ---- the theorems
 
@@ -202,7 +213,7 @@ pub past-the-room-high-water : PastTheRoomHighWater
 past-the-room-high-water p₁ p₂ S t a₁ a₂ A₁ A₂ = high-water-one-outcome (high-water-follows S A₁) A₂
 
 pub past-the-room-open : PastTheRoomOpen
-past-the-room-open p₁ p₂ d N both a₁ a₂ q₁ q₂ O₁ O₂ =
+past-the-room-open L p₁ p₂ d N both a₁ a₂ q₁ q₂ O₁ O₂ =
     let F = open-follows p₁ p₂ d N both O₁ in
     let one = open-one-outcome (F .1) O₂ in
     (one .0, λ z. subst (λ (x : List ℕ). SameRoom q₁ x) (one .1) (F .2 z))

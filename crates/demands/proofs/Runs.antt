@@ -1,8 +1,8 @@
--- A history on a sound pool keeps it sound, with its screen and its blocks; and calls on given words have one history only, and leave the same words.
+-- A history on a sound pool keeps it sound, with its layout, its screen and its blocks; and calls on given words have one history only, and leave the same words.
 use mathlib.Core.Path.{_≡_, refl, sym, subst, _∙_}
 use mathlib.Core.List.{List, [], _∷_}
 use Prim.Native.Nat.{ℕ}
-use Rattle.pool.specs.Words.{edition}
+use Rattle.pool.specs.Words.{layoutOf}
 use Rattle.pool.specs.Sound.{Sound}
 use Rattle.calls.specs.Tables.{BinSays, BinPixelsSays, ReadSays, ReleaseSays}
 use Rattle.demands.specs.History.{Entry, binned, binned-pixels, found, released, callOf, callsOf, Step, Run}
@@ -13,18 +13,18 @@ use Rattle.demands.proofs.Demand2.{demand-2-bin, demand-2-pixels, deman
 
 -- ---- a sound pool stays sound
 
-pub step-stays : (p : List ℕ) (e : Entry) (q : List ℕ) → Sound edition p → Step p e q → StaysSound p q
+pub step-stays : (p : List ℕ) (e : Entry) (q : List ℕ) → Sound (layoutOf p) p → Step p e q → StaysSound p q
 step-stays p (binned shape id a) q S s = demand-2-bin S s .stays
 step-stays p (binned-pixels shape id a) q S s = demand-2-pixels S s .stays
 step-stays p (found tile place a) q S s = same-stays S (s .1)
 step-stays p (released tile a) q S s = demand-2-release S s .stays
 
-pub run-stays : (p : List ℕ) (h : List Entry) (q : List ℕ) → Sound edition p → Run p h q → StaysSound p q
+pub run-stays : (p : List ℕ) (h : List Entry) (q : List ℕ) → Sound (layoutOf p) p → Run p h q → StaysSound p q
 run-stays p [] q S r = same-stays S r
 run-stays p (e ∷ h) q S r =
     let M = run-stays p h (r .0) S (r .1) in
     let Q = step-stays (r .0) e q (M .sound) (r .2) in
-    record { sound = Q .sound; screen = Q .screen ∙ M .screen; blocks = Q .blocks ∙ M .blocks }
+    record { sound = Q .sound; layout = Q .layout ∙ M .layout; screen = Q .screen ∙ M .screen; blocks = Q .blocks ∙ M .blocks }
 
 -- ---- one history only
 

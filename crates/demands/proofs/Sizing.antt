@@ -14,14 +14,14 @@ use Rattle.screen.specs.declared.Screen.{Screen}
 use Rattle.screen.specs.Screen.{tiles}
 use Rattle.shape.specs.declared.Shape.{Shape}
 use Rattle.walk.specs.Touched.{TouchedTiles}
-use Rattle.pool.specs.Words.{edition}
+use Rattle.pool.specs.Words.{Layout, Known, edition, layoutOf}
 use Rattle.pool.specs.State.{State, tileOf}
 use Rattle.pool.specs.Sound.{Sound, screenOf, tilesOf, blocksOf}
-use Rattle.pool.proofs.Words.{edition-fair}
+use Rattle.pool.proofs.Editions.{known-fair, layout-fair}
 use Rattle.pool.proofs.Total.{blocks-total, blocksInTiles-sum}
 use Rattle.lists.specs.Appending.{need, appendAll}
 use Rattle.lists.specs.Wider.{Wider}
-use Rattle.lists.proofs.Widening.{wider-sound, wider-sound′, wider-need, wider-free}
+use Rattle.lists.proofs.Widening.{wider-free}
 use Rattle.calls.specs.declared.Binned.{Binned}
 use Rattle.calls.specs.declared.Released.{Released}
 use Rattle.calls.specs.declared.Found.{Found}
@@ -32,7 +32,7 @@ use Rattle.demands.specs.Sizing.{NoneForRoom, FreeThroughout, blocksByMa
 use Rattle.demands.proofs.Accepted.{bin-appends}
 use Rattle.demands.proofs.Demand2.{demand-2-bin, demand-2-pixels}
 use Rattle.demands.proofs.Runs.{step-one-outcome, run-stays}
-use Rattle.demands.proofs.Alike.{step-follows}
+use Rattle.demands.proofs.Alike.{alike-sound, alike-sound′, need-same, step-follows}
 use Rattle.demands.proofs.HighWater.{step-marks}
 use Rattle.demands.proofs.Demand3.{accepted-opening, fresh, openings-wider}
 
@@ -49,36 +49,36 @@ release-not-8 (ReleaseSays.damaged d e f) z = absurd (omega (arith, ap (λ (b : 
 release-not-8 (ReleaseSays.no-tile S h e f) z = absurd (omega (arith, ap (λ (b : Released). b .number) e))
 release-not-8 (ReleaseSays.done S h e f) z = absurd (omega (arith, ap (λ (b : Released). b .number) e))
 
-module _ {n : ℕ} {p w : List ℕ} {s : State} (W : Wider edition n p w s) where
+module _ {L : Layout} (known : Known L) {n : ℕ} {p w : List ℕ} {s : State} (W : Wider L n p w s) where
   -- the larger pool refuses the shape too, or is left with fewer than n free blocks
-  place-tight : (shape : Shape) (id : ℕ) (ts : List ℕ) → id < edition .limit → TouchedTiles (screenOf p) shape ts → freeIn p < need edition p ts
+  place-tight : (shape : Shape) (id : ℕ) (ts : List ℕ) → id < edition .limit → TouchedTiles (screenOf p) shape ts → freeIn p < need (layoutOf p) p ts
       → (b : Binned) × (v : List ℕ) × PlaceSays w shape id b v × ((b .number ≡ 8) ⊎ (freeIn v < n))
   place-tight shape id ts i T l =
       let T′ : TouchedTiles (screenOf w) shape ts = subst (λ (d : Screen). TouchedTiles d shape ts) (sym (W .screens)) T in
-      let same : need edition w ts ≡ need edition p ts = wider-need edition-fair W ts (touched-distinct T) in
-      let more = wider-free edition-fair W in
+      let same = need-same known W ts (touched-distinct T) in
+      let more = wider-free (known-fair known) W in
       ⊎-elim
-      (λ (lt : freeIn w < need edition w ts). (refusedBin 8, w, PlaceSays.no-room ts T′ lt refl refl, inl refl))
-      (λ (ge : need edition w ts ≤ freeIn w). (
-        record { number = 0; tiles = length ts; blocks = need edition w ts },
-        appendAll edition (tilesOf w) w ts id,
+      (λ (lt : freeIn w < need (layoutOf w) w ts). (refusedBin 8, w, PlaceSays.no-room ts T′ lt refl refl, inl refl))
+      (λ (ge : need (layoutOf w) w ts ≤ freeIn w). (
+        record { number = 0; tiles = length ts; blocks = need (layoutOf w) w ts },
+        appendAll (layoutOf w) (tilesOf w) w ts id,
         PlaceSays.done ts T′ ge refl refl,
-        inr (omega (arith, bin-appends (wider-sound′ edition-fair W) id i T′ ge .taken)),
+        inr (omega (arith, bin-appends (alike-sound′ known W) id i T′ ge .taken)),
       ))
-      (lt-or-ge (freeIn w) (need edition w ts))
+      (lt-or-ge (freeIn w) (need (layoutOf w) w ts))
 
   step-tight : (e : Entry) (q : List ℕ) → Step p e q → numberOf e ≡ 8
       → (f : Entry) × (v : List ℕ) × (callOf f ≡ callOf e) × Step w f v × ((numberOf f ≡ 8) ⊎ (freeIn v < n))
   step-tight (binned shape id a) q k z =
-      let r = demand-2-bin (wider-sound edition-fair W) k .no-room .0 z in
+      let r = demand-2-bin (alike-sound known W) k .no-room .0 z in
       let o = r .0 in
       let P = place-tight shape id (o .ts) (o .id<) (o .touched) (r .1) in
-      (binned shape id (P .0), P .1, refl, BinSays.placed (wider-sound′ edition-fair W) (o .id<) (o .in-range) (P .2), P .3)
+      (binned shape id (P .0), P .1, refl, BinSays.placed (alike-sound′ known W) (o .id<) (o .in-range) (P .2), P .3)
   step-tight (binned-pixels shape id a) q k z =
-      let r = demand-2-pixels (wider-sound edition-fair W) k .no-room .0 z in
+      let r = demand-2-pixels (alike-sound known W) k .no-room .0 z in
       let o = r .2 .0 in
       let P = place-tight (r .0) id (o .ts) (o .id<) (o .touched) (r .2 .1) in
-      (binned-pixels shape id (P .0), P .1, refl, BinPixelsSays.placed (wider-sound′ edition-fair W) (o .id<) (r .0) (r .1) (P .2), P .3)
+      (binned-pixels shape id (P .0), P .1, refl, BinPixelsSays.placed (alike-sound′ known W) (o .id<) (r .0) (r .1) (P .2), P .3)
   step-tight (found tile place a) q k z = absurd (read-not-8 (k .0) z)
   step-tight (released tile a) q k z = absurd (release-not-8 k z)
 
@@ -93,60 +93,64 @@ module _ {n : ℕ} {p w : List ℕ} {s : State} (W : Wider edition n p w s) wher
 
   -- and answers as the larger
   step-fits : (e f : Entry) (q v : List ℕ) → callOf e ≡ callOf f → Step p e q → Step w f v → numberOf f ≢ 8 → n ≤ freeIn v
-      → (e ≡ f) × (r : State) × Wider edition n q v r
+      → (e ≡ f) × (r : State) × Wider L n q v r
   step-fits e f q v c k l ne free =
-      let F = step-follows W e q k (not-refused e f q v c k l ne free) in
+      let F = step-follows known W e q k (not-refused e f q v c k l ne free) in
       let one = step-one-outcome w e f (F .0) v c (F .2) l in
-      (one .0, F .1, subst (λ (x : List ℕ). Wider edition n q x (F .1)) (one .1) (F .3))
+      (one .0, F .1, subst (λ (x : List ℕ). Wider L n q x (F .1)) (one .1) (F .3))
 
 -- ---- histories
 
-run-fits : {n : ℕ} {p w : List ℕ} {s : State} → Wider edition n p w s → (h k : List Entry) (q v : List ℕ) → callsOf h ≡ callsOf k → Run p h q
-    → (r : Run w k v) → NoneForRoom k → FreeThroughout n w k v r → (h ≡ k) × (t : State) × Wider edition n q v t
-run-fits {n} {p} {w} {s} W [] [] q v c R r none free =
-    (refl, s, subst (λ (x : List ℕ). Wider edition n x v s) (sym R) (subst (λ (x : List ℕ). Wider edition n p x s) (sym r) W))
-run-fits W [] (f ∷ k) q v c R r none free = absurd (omega (arith, ap length c))
-run-fits W (e ∷ h) [] q v c R r none free = absurd (omega (arith, ap length c))
-run-fits W (e ∷ h) (f ∷ k) q v c R r none free =
-    let before = run-fits W h k (R .0) (r .0) (cc) (R .1) (r .1) (none .1) (free .1) in
-    let step = step-fits (before .2) e f q v (cc) (R .2) (r .2) (none .0) (free .0) in
+run-fits : {L : Layout} → Known L → {n : ℕ} {p w : List ℕ} {s : State} → Wider L n p w s → (h k : List Entry) (q v : List ℕ) → callsOf h ≡ callsOf k → Run p h q
+    → (r : Run w k v) → NoneForRoom k → FreeThroughout n w k v r → (h ≡ k) × (t : State) × Wider L n q v t
+run-fits {L} known {n} {p} {w} {s} W [] [] q v c R r none free =
+    (refl, s, subst (λ (x : List ℕ). Wider L n x v s) (sym R) (subst (λ (x : List ℕ). Wider L n p x s) (sym r) W))
+run-fits known W [] (f ∷ k) q v c R r none free = absurd (omega (arith, ap length c))
+run-fits known W (e ∷ h) [] q v c R r none free = absurd (omega (arith, ap length c))
+run-fits known W (e ∷ h) (f ∷ k) q v c R r none free =
+    let before = run-fits known W h k (R .0) (r .0) (cc) (R .1) (r .1) (none .1) (free .1) in
+    let step = step-fits known (before .2) e f q v (cc) (R .2) (r .2) (none .0) (free .0) in
     (λ i. step .0 i ∷ before .0 i, step .1, step .2)
 
 pub fewer-are-enough : FewerAreEnough
-fewer-are-enough d N n p₁ p₂ O h₂ q₂ r₂ none free h₁ q₁ same R₁ =
-    run-fits (openings-wider (accepted-opening (O .first)) (accepted-opening (O .second))) h₁ h₂ q₁ q₂ same R₁ r₂ none free .0
+fewer-are-enough L d N n p₁ p₂ O h₂ q₂ r₂ none free h₁ q₁ same R₁ =
+    let A = accepted-opening (O .first) in
+    run-fits (A .known) (openings-wider A (accepted-opening (O .second))) h₁ h₂ q₁ q₂ same R₁ r₂ none free .0
 
 -- ---- the marks
 
 -- the blocks that are not free are no more than the marks ask for
-in-use≤ : {q : List ℕ} → Sound edition q → blocksOf q ≤ freeIn q + blocksByMarks (screenOf q) q
+in-use≤ : {q : List ℕ} → Sound (layoutOf q) q → blocksOf q ≤ freeIn q + blocksByMarks (layoutOf q) (screenOf q) q
 in-use≤ {q} S =
     let R = S .shows in
     let s = S .state in
-    let by : sumTo (tilesOf q) (λ t. length (tileOf s t .blocks)) ≤ blocksByMarks (screenOf q) q
-    = sumTo≤ (tilesOf q) (λ t. length (tileOf s t .blocks)) (λ t. ceil (markIn q t) (edition .ids))
+    let ids = layoutOf q .ids in
+    let by : sumTo (tilesOf q) (λ t. length (tileOf s t .blocks)) ≤ blocksByMarks (layoutOf q) (screenOf q) q
+    = sumTo≤ (tilesOf q) (λ t. length (tileOf s t .blocks)) (λ t. ceil (markIn q t) ids)
     (λ t ht.
     let k = R .tile t ht in
-    rw (k .many, k .mark) (ceil≤ (edition .ids) (edition-fair .ids>) (k .mark≥))) in
+    rw (k .many, k .mark) (ceil≤ ids (layout-fair q .ids>) (k .mark≥))) in
     omega (arith, blocks-total R, blocksInTiles-sum (s .tiles), R .count, ap (λ (T : ℕ). sumTo T (λ t. length (tileOf s t .blocks))) (R .tiled))
 
-free-throughout : (N n : ℕ) {p : List ℕ} → Sound edition p → blocksOf p ≡ N + n → (h : List Entry) (q : List ℕ) (r : Run p h q)
-    → blocksByMarks (screenOf p) q ≤ N → FreeThroughout n p h q r
+free-throughout : (N n : ℕ) {p : List ℕ} → Sound (layoutOf p) p → blocksOf p ≡ N + n → (h : List Entry) (q : List ℕ) (r : Run p h q)
+    → blocksByMarks (layoutOf p) (screenOf p) q ≤ N → FreeThroughout n p h q r
 free-throughout N n S b [] q r l = tt
 free-throughout N n {p} S b (e ∷ h) q r l =
     let M = run-stays p h (r .0) S (r .1) in
     let Q = run-stays p (e ∷ h) q S r in
-    let rises : blocksByMarks (screenOf p) (r .0) ≤ blocksByMarks (screenOf p) q
-    = sumTo≤ (tilesOf p) (λ t. ceil (markIn (r .0) t) (edition .ids)) (λ t. ceil (markIn q t) (edition .ids))
+    let ids = layoutOf p .ids in
+    let rises : blocksByMarks (layoutOf p) (screenOf p) (r .0) ≤ blocksByMarks (layoutOf p) (screenOf p) q
+    = sumTo≤ (tilesOf p) (λ t. ceil (markIn (r .0) t) ids) (λ t. ceil (markIn q t) ids)
     (λ t ht.
-    ceil≤ (edition .ids) (edition-fair .ids>)
+    ceil≤ ids (layout-fair p .ids>)
     (omega (arith, step-marks (r .0) e q (M .sound) (r .2) t (subst (λ (d : Screen). t < tiles d) (sym (M .screen)) ht)))) in
-    let in-use : blocksOf q ≤ freeIn q + blocksByMarks (screenOf p) q
-    = subst (λ (d : Screen). blocksOf q ≤ freeIn q + blocksByMarks d q) (Q .screen) (in-use≤ (Q .sound)) in
+    let in-use : blocksOf q ≤ freeIn q + blocksByMarks (layoutOf p) (screenOf p) q
+    = subst (λ (L : Layout). blocksOf q ≤ freeIn q + blocksByMarks L (screenOf p) q) (Q .layout)
+    (subst (λ (d : Screen). blocksOf q ≤ freeIn q + blocksByMarks (layoutOf q) d q) (Q .screen) (in-use≤ (Q .sound))) in
     (omega (arith, Q .blocks), free-throughout N n S b h (r .0) (r .1) (omega arith))
 
 pub marks-are-enough : MarksAreEnough
-marks-are-enough d N n p₁ p₂ O h₂ q₂ r₂ none few =
+marks-are-enough L d N n p₁ p₂ O h₂ q₂ r₂ none few =
     let P = fresh (accepted-opening (O .second)) in
-    let free = free-throughout N n (P .sound) (P .blocks) h₂ q₂ r₂ (subst (λ (x : Screen). blocksByMarks x q₂ ≤ N) (sym (P .screen)) few) in
-    fewer-are-enough d N n p₁ p₂ O h₂ q₂ r₂ none free
+    let few′ : blocksByMarks (layoutOf p₂) (screenOf p₂) q₂ ≤ N = rw (P .layout, P .screen) few in
+    fewer-are-enough L d N n p₁ p₂ O h₂ q₂ r₂ none (free-throughout N n (P .sound) (P .blocks) h₂ q₂ r₂ few′)

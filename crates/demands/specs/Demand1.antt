@@ -9,7 +9,7 @@ use Prim.Native.Nat.{ℕ, _≤_}
 use lib.ListN.{length, getD}
 use Rattle.screen.specs.declared.Screen.{Screen}
 use Rattle.screen.specs.Screen.{tiles}
-use Rattle.pool.specs.Words.{edition, room}
+use Rattle.pool.specs.Words.{Layout, layoutOf, room}
 use Rattle.pool.specs.Sound.{tilesOf, blocksOf}
 use Rattle.calls.specs.declared.HighWater.{HighWater}
 use Rattle.calls.specs.declared.Answered.{Answered}
@@ -42,13 +42,13 @@ pub record Outside (end : ℕ) (p q : List ℕ) : Type 0 where
 pub record Demand1 (p : List ℕ) (e : Entry) (q : List ℕ) : Type 0 where
   pub number-is : (numberOf e ≡ 0) ⊎ Among (numberOf e) (refusals e)
   pub refused : numberOf e ≢ 0 → (q ≡ p) × RestZero e
-  pub accepted : numberOf e ≡ 0 → Outside (room edition (tilesOf p) (blocksOf p)) p q
+  pub accepted : numberOf e ≡ 0 → Outside (room (layoutOf p) (tilesOf p) (blocksOf p)) p q
 
--- of an opening, which answers a number
-pub record Demand1Open (p : List ℕ) (d : Screen) (blocks number : ℕ) (q : List ℕ) : Type 0 where
+-- of an opening in a layout, which answers a number
+pub record Demand1Open (L : Layout) (p : List ℕ) (d : Screen) (blocks number : ℕ) (q : List ℕ) : Type 0 where
   pub number-is : (number ≡ 0) ⊎ Among number (1 ∷ 2 ∷ 3 ∷ [])
   pub refused : number ≢ 0 → q ≡ p
-  pub accepted : number ≡ 0 → Outside (room edition (tiles d) blocks) p q
+  pub accepted : number ≡ 0 → Outside (room L (tiles d) blocks) p q
 
 -- of an audit, which only reads the words and answers a number
 abbrev pub Demand1Audit : (number : ℕ) → Type 0

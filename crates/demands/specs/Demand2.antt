@@ -13,7 +13,7 @@ use Rattle.walk.specs.Touched.{TouchedTiles}
 use Rattle.snap.specs.declared.PixelShape.{PixelShape}
 use Rattle.snap.specs.declared.SnappedShape.{SnappedShape}
 use Rattle.snap.specs.Shapes.{shapeOf}
-use Rattle.pool.specs.Words.{edition, blockWord}
+use Rattle.pool.specs.Words.{edition, layoutOf, blockWord}
 use Rattle.pool.specs.State.{tileOf, times}
 use Rattle.pool.specs.Sound.{Sound, screenOf, tilesOf, blocksOf}
 use Rattle.lists.specs.Appending.{need}
@@ -21,9 +21,10 @@ use Rattle.calls.specs.declared.Binned.{Binned}
 use Rattle.calls.specs.declared.Released.{Released}
 use Rattle.calls.specs.Tables.{listIn, markIn, freeIn}
 
--- the words q are a sound pool of the same screen and with as many blocks as p
+-- the words q are a sound pool of the same layout and screen and with as many blocks as p
 pub record StaysSound (p q : List ℕ) : Type 0 where
-  pub sound : Sound edition q
+  pub sound : Sound (layoutOf q) q
+  pub layout : layoutOf q ≡ layoutOf p
   pub screen : screenOf q ≡ screenOf p
   pub blocks : blocksOf q ≡ blocksOf p
 
@@ -38,10 +39,10 @@ pub record Binnable (p : List ℕ) (shape : Shape) (id : ℕ) : Type 0 where
 
 -- the blocks that it needs exceed the free ones, or do not
 abbrev pub NoRoom : (p : List ℕ) → Shape → (id : ℕ) → Type 0
-NoRoom p shape id = (o : Binnable p shape id) × (freeIn p < need edition p (o .ts))
+NoRoom p shape id = (o : Binnable p shape id) × (freeIn p < need (layoutOf p) p (o .ts))
 
 abbrev pub HasRoom : (p : List ℕ) → Shape → (id : ℕ) → Type 0
-HasRoom p shape id = (o : Binnable p shape id) × (need edition p (o .ts) ≤ freeIn p)
+HasRoom p shape id = (o : Binnable p shape id) × (need (layoutOf p) p (o .ts) ≤ freeIn p)
 
 -- an accepted bin: the id stands once more at the end of the list of each tile that the shape touches, and of no other
 pub record Listed (p : List ℕ) (shape : Shape) (id : ℕ) (a : Binned) (q : List ℕ) : Type 0 where
@@ -76,16 +77,16 @@ pub record Demand2Pixels (p : List ℕ) (shape : PixelShape) (id : ℕ) (a : Bin
 -- ---- release
 
 -- an accepted release: that one list is empty, no mark has changed, and its blocks are returned, poisoned
-pub record Emptied (p : List ℕ) (S : Sound edition p) (t : ℕ) (a : Released) (q : List ℕ) : Type 0 where
+pub record Emptied (p : List ℕ) (S : Sound (layoutOf p) p) (t : ℕ) (a : Released) (q : List ℕ) : Type 0 where
   pub emptied : listIn q t ≡ []
   pub others : (u : ℕ) → u < tilesOf p → u ≢ t → listIn q u ≡ listIn p u
   pub marks : (u : ℕ) → u < tilesOf p → markIn q u ≡ markIn p u
-  pub count : a .blocks ≡ ceil (length (listIn p t)) (edition .ids)
+  pub count : a .blocks ≡ ceil (length (listIn p t)) (layoutOf p .ids)
   pub given : freeIn q ≡ freeIn p + a .blocks
-  pub free : (R : Sound edition q) (b : ℕ) → 0 < times b (tileOf (S .state) t .blocks) → 0 < times b (R .state .free)
-  pub poisoned : (b : ℕ) → 0 < times b (tileOf (S .state) t .blocks) → (k : ℕ) → k < edition .ids → blockWord edition (tilesOf p) q b k ≡ edition .poison
+  pub free : (R : Sound (layoutOf q) q) (b : ℕ) → 0 < times b (tileOf (S .state) t .blocks) → 0 < times b (R .state .free)
+  pub poisoned : (b : ℕ) → 0 < times b (tileOf (S .state) t .blocks) → (k : ℕ) → k < layoutOf p .ids → blockWord (layoutOf p) (tilesOf p) q b k ≡ edition .poison
 
-pub record Demand2Release (p : List ℕ) (S : Sound edition p) (t : ℕ) (a : Released) (q : List ℕ) : Type 0 where
+pub record Demand2Release (p : List ℕ) (S : Sound (layoutOf p) p) (t : ℕ) (a : Released) (q : List ℕ) : Type 0 where
   pub no-tile : (a .number ≡ 9) ↔ (tilesOf p ≤ t)
   pub done : (a .number ≡ 0) ↔ (t < tilesOf p)
   pub emptied : a .number ≡ 0 → Emptied p S t a q

@@ -1,4 +1,4 @@
--- Demand 3: two pools of one screen and tile size, the second with at least as many blocks, given the same calls less those that the first refused for room.
+-- Demand 3: two pools of one layout, screen and tile size, the second with at least as many blocks, given the same calls less those that the first refused for room.
 use mathlib.Core.Path.{_≡_}
 use mathlib.Core.Logic.{_≢_, _⊎_}
 use mathlib.Core.Bool.{cond}
@@ -12,7 +12,7 @@ use Rattle.shape.specs.declared.Shape.{Shape}
 use Rattle.touch.specs.Touches.{Touches}
 use Rattle.snap.specs.declared.SnappedShape.{SnappedShape}
 use Rattle.snap.specs.Shapes.{shapeOf}
-use Rattle.pool.specs.Words.{edition, blockWord}
+use Rattle.pool.specs.Words.{Layout, edition, blockWord}
 use Rattle.pool.specs.Opening.{OpenSays}
 use Rattle.calls.specs.Tables.{listIn, markIn, freeIn}
 use Rattle.demands.specs.History.{Entry, binned, binned-pixels, found, released, Run, callsOf, lessRoom}
@@ -48,16 +48,16 @@ abbrev pub ListedBy : Screen → (t : ℕ) → List Entry → (xs : List ℕ) �
 ListedBy d t [] xs = xs ≡ []
 ListedBy d t (e ∷ h) xs = (before : List ℕ) × ListedBy d t h before × Becomes d t (effectOf e) before xs
 
--- both pools were opened for one screen, the second with n blocks more, on any slices with room and with any words in them
-pub record Openings (d : Screen) (N n : ℕ) (p₁ p₂ : List ℕ) : Type 0 where
+-- both pools were opened in one layout for one screen, the second with n blocks more, on any slices with room and with any words in them
+pub record Openings (L : Layout) (d : Screen) (N n : ℕ) (p₁ p₂ : List ℕ) : Type 0 where
   pub old₁ : List ℕ
   pub old₂ : List ℕ
-  pub first : OpenSays edition old₁ d N 0 p₁
-  pub second : OpenSays edition old₂ d (N + n) 0 p₂
+  pub first : OpenSays L old₁ d N 0 p₁
+  pub second : OpenSays L old₂ d (N + n) 0 p₂
 
 -- After any calls on the first pool, and the same less those that it refused for room on the second. The beginning of a history is a history, so this
 -- holds after each call.
-pub record Demand3 (d : Screen) (N n : ℕ) (h₁ : List Entry) (q₁ : List ℕ) (h₂ : List Entry) (q₂ : List ℕ) : Type 0 where
+pub record Demand3 (L : Layout) (d : Screen) (N n : ℕ) (h₁ : List Entry) (q₁ : List ℕ) (h₂ : List Entry) (q₂ : List ℕ) : Type 0 where
   -- each shared call got the same answer
   pub answers : h₂ ≡ lessRoom h₁
   -- all lists and marks agree, and the lists are what the history says
@@ -67,17 +67,17 @@ pub record Demand3 (d : Screen) (N n : ℕ) (h₁ : List Entry) (q₁ : List ℕ
   -- the second has more free blocks by exactly the original difference
   pub free : freeIn q₂ ≡ freeIn q₁ + n
   -- the id places of its extra blocks hold only poison
-  pub poisoned : (b : ℕ) → N ≤ b → b < N + n → (k : ℕ) → k < edition .ids → blockWord edition (tiles d) q₂ b k ≡ edition .poison
+  pub poisoned : (b : ℕ) → N ≤ b → b < N + n → (k : ℕ) → k < L .ids → blockWord L (tiles d) q₂ b k ≡ edition .poison
 
 abbrev pub Demand3Holds : Type 0
 Demand3Holds =
-    (d : Screen) (N n : ℕ) (p₁ p₂ : List ℕ) → Openings d N n p₁ p₂
+    (L : Layout) (d : Screen) (N n : ℕ) (p₁ p₂ : List ℕ) → Openings L d N n p₁ p₂
     → (h₁ : List Entry) (q₁ : List ℕ) → Run p₁ h₁ q₁
     → (h₂ : List Entry) (q₂ : List ℕ) → callsOf h₂ ≡ callsOf (lessRoom h₁) → Run p₂ h₂ q₂
-    → Demand3 d N n h₁ q₁ h₂ q₂
+    → Demand3 L d N n h₁ q₁ h₂ q₂
 
 -- and such calls on the second pool there are: it can be given them, and answers as the first did
 abbrev pub Demand3Runs : Type 0
 Demand3Runs =
-    (d : Screen) (N n : ℕ) (p₁ p₂ : List ℕ) → Openings d N n p₁ p₂ → (h₁ : List Entry) (q₁ : List ℕ) → Run p₁ h₁ q₁
+    (L : Layout) (d : Screen) (N n : ℕ) (p₁ p₂ : List ℕ) → Openings L d N n p₁ p₂ → (h₁ : List Entry) (q₁ : List ℕ) → Run p₁ h₁ q₁
     → (q₂ : List ℕ) × Run p₂ (lessRoom h₁) q₂

@@ -5,7 +5,7 @@ use Prim.Native.Nat.{ℕ, _<_, max}
 use lib.ListN.{length}
 use Rattle.screen.specs.declared.Screen.{Screen}
 use Rattle.screen.specs.Screen.{tiles}
-use Rattle.pool.specs.Words.{edition}
+use Rattle.pool.specs.Words.{Layout}
 use Rattle.pool.specs.Opening.{OpenSays}
 use Rattle.calls.specs.Tables.{listIn, markIn}
 use Rattle.demands.specs.History.{Entry, Run}
@@ -15,8 +15,8 @@ abbrev pub greatestLength : (t : ℕ) (p : List ℕ) (h : List Entry) (q : List 
 greatestLength t p [] q r = 0
 greatestLength t p (e ∷ h) q r = max (greatestLength t p h (r .0) (r .1)) (length (listIn q t))
 
--- for any screen, blocks and slice that are opened, and any calls after that
+-- for any layout, screen, blocks and slice that are opened, and any calls after that
 abbrev pub MarksAreGreatest : Type 0
 MarksAreGreatest =
-    (d : Screen) (N : ℕ) (old p : List ℕ) → OpenSays edition old d N 0 p
+    (L : Layout) (d : Screen) (N : ℕ) (old p : List ℕ) → OpenSays L old d N 0 p
     → (h : List Entry) (q : List ℕ) (r : Run p h q) (t : ℕ) → t < tiles d → markIn q t ≡ greatestLength t p h q r

@@ -7,3 +7,4 @@ pub mod Demand3
 pub mod HighWater
 pub mod Sizing
 pub mod OldLayout
+pub mod Editions

@@ -6,7 +6,7 @@ use Prim.Native.Nat.{ℕ, _≤_, _<_}
 use lib.ListN.{length, getD}
 use Rattle.screen.specs.declared.Screen.{Screen}
 use Rattle.screen.specs.Screen.{tiles}
-use Rattle.pool.specs.Words.{edition, room}
+use Rattle.pool.specs.Words.{Layout, layoutOf, room}
 use Rattle.pool.specs.Sound.{tilesOf, blocksOf}
 use Rattle.pool.specs.Opening.{OpenSays}
 use Rattle.calls.specs.declared.HighWater.{HighWater}
@@ -15,7 +15,7 @@ use Rattle.demands.specs.History.{Entry, Run, callsOf}
 
 -- the room that the header of p says
 abbrev pub roomOf : List ℕ → ℕ
-roomOf p = room edition (tilesOf p) (blocksOf p)
+roomOf p = room (layoutOf p) (tilesOf p) (blocksOf p)
 
 -- in that room p₂ has the words of p₁; and both slices are long enough for it, or neither is
 pub record SameRoom (p₁ p₂ : List ℕ) : Type 0 where
@@ -38,9 +38,9 @@ abbrev pub PastTheRoomHighWater : Type 0
 PastTheRoomHighWater =
     (p₁ p₂ : List ℕ) → SameRoom p₁ p₂ → (t : ℕ) (a₁ a₂ : HighWater) → HighWaterSays p₁ t a₁ → HighWaterSays p₂ t a₂ → a₁ ≡ a₂
 
--- an opening, of slices that are both long enough for it or neither, whatever their words
+-- an opening in a layout, of slices that are both long enough for it or neither, whatever their words
 abbrev pub PastTheRoomOpen : Type 0
 PastTheRoomOpen =
-    (p₁ p₂ : List ℕ) (d : Screen) (N : ℕ) → (room edition (tiles d) N ≤ length p₁) ↔ (room edition (tiles d) N ≤ length p₂)
-    → (a₁ a₂ : ℕ) (q₁ q₂ : List ℕ) → OpenSays edition p₁ d N a₁ q₁ → OpenSays edition p₂ d N a₂ q₂
+    (L : Layout) (p₁ p₂ : List ℕ) (d : Screen) (N : ℕ) → (room L (tiles d) N ≤ length p₁) ↔ (room L (tiles d) N ≤ length p₂)
+    → (a₁ a₂ : ℕ) (q₁ q₂ : List ℕ) → OpenSays L p₁ d N a₁ q₁ → OpenSays L p₂ d N a₂ q₂
     → (a₁ ≡ a₂) × (a₁ ≡ 0 → SameRoom q₁ q₂)

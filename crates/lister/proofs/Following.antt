@@ -8,12 +8,11 @@ use native.Mathlib.Omega.{arith}
 use lib.ListN.{length, getD, take, drop, length-drop, drop-of-length-le}
 use lib.Seq.{length-take-le, getD-take, getD-drop, take-add, take-all, drop-drop, ext-getD}
 use Rattle.numbers.proofs.Ceil.{lt-or-ge}
-use Rattle.pool.specs.Words.{edition, start, room, tileWord, blockWord}
+use Rattle.pool.specs.Words.{Layout, Fair, start, room, tileWord, blockWord}
 use Rattle.pool.specs.State.{tileOf, linkTo, times, Holds}
 use Rattle.pool.specs.Sound.{Sound, tilesOf, blocksOf}
 use Rattle.pool.specs.Lists.{listOf}
 use Rattle.pool.specs.Written.{written}
-use Rattle.pool.proofs.Words.{edition-fair}
 use Rattle.pool.proofs.Times.{times-head, times-tail}
 use Rattle.pool.proofs.State.{tile-block<}
 use Rattle.pool.proofs.Lists.{listOf-tile, blocks-enough}
@@ -99,34 +98,34 @@ follow-end {list = list} {copy₀ = copy₀} F h = (omega (arith, F .upto), F .c
 
 -- ---- a tile of a sound pool
 
-module _ (p : List ℕ) (S : Sound edition p) where
-  pub block-within : (b : ℕ) → b < blocksOf p → start edition (tilesOf p) + 32 * b + 32 ≤ length p
+module _ {L : Layout} (A : Fair L) (p : List ℕ) (S : Sound L p) where
+  pub block-within : (b : ℕ) → b < blocksOf p → start L (tilesOf p) + suc (L .ids) * b + suc (L .ids) ≤ length p
   unfolding room
-  block-within b hb = omega (arith, S .opened .long, mul-le-mul-left 32 hb)
+  block-within b hb = omega (arith, S .opened .long, mul-le-mul-left (suc (L .ids)) hb)
 
   module _ (t : ℕ) (ht : t < tilesOf p) where
-    pub tile-within : edition .header + edition .tile * t + edition .tile ≤ length p
+    pub tile-within : L .header + L .tile * t + L .tile ≤ length p
     unfolding room start
-    tile-within = omega (arith, S .opened .long, ht)
+    tile-within = omega (arith, S .opened .long, mul-le-mul-left (L .tile) ht)
 
-    pub tile-entries : getD p (edition .header + edition .tile * t) 0 ≡ length (listOf edition (tilesOf p) p t)
+    pub tile-entries : getD p (L .header + L .tile * t) 0 ≡ length (listOf L (tilesOf p) p t)
     unfolding tileWord
     tile-entries =
-        let z : edition .header + edition .tile * t + 0 ≡ edition .header + edition .tile * t = omega arith in
-        (rw z at (S .shows .tile t ht .entries)) ∙ ap length (sym (listOf-tile edition-fair (S .shows .tile t ht)))
+        let z : L .header + L .tile * t + 0 ≡ L .header + L .tile * t = omega arith in
+        (rw z at (S .shows .tile t ht .entries)) ∙ ap length (sym (listOf-tile A (S .shows .tile t ht)))
 
     pub follow-start : (copy : List ℕ)
-        → Following (edition .ids) (edition .poison) (blockWord edition (tilesOf p) p) (blocksOf p) (listOf edition (tilesOf p) p t) copy copy
-        (getD p (edition .header + edition .tile * t + 1) 0) 0
+        → Following (L .ids) (L .poison) (blockWord L (tilesOf p) p) (blocksOf p) (listOf L (tilesOf p) p t) copy copy
+        (getD p (L .header + L .tile * t + 1) 0) 0
     unfolding tileWord
     follow-start copy =
         let k = S .shows .tile t ht in
-        rw (listOf-tile edition-fair k)
+        rw (listOf-tile A k)
         (record {
           blocks = tileOf (S .state) t .blocks;
           named = k .first;
           held = k .held;
-          enough = omega (arith, blocks-enough edition-fair k);
+          enough = omega (arith, blocks-enough A k);
           within = tile-block< (S .shows) t;
           upto = omega arith;
           copied = sym (written-none copy 0);

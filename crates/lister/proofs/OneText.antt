@@ -6,7 +6,7 @@ use Prim.Native.Nat.{ℕ, _%_, _≤_, _<_}
 use native.Mathlib.Omega.{arith}
 use lib.ListN.{length, take}
 use Rattle.numbers.proofs.Ceil.{lt-or-ge, eq-or-ne}
-use Rattle.pool.specs.Words.{edition}
+use Rattle.pool.specs.Words.{layoutOf}
 use Rattle.pool.specs.Sound.{Sound}
 use Rattle.lister.specs.Bytes.{wordsOf}
 use Rattle.lister.specs.declared.input.Input.{Input}
@@ -27,7 +27,7 @@ one-text-words : (p s t : List ℕ) → WordsSay p s → WordsSay p t → s ≡ 
 one-text-words p s t A B =
     ⊎-elim (λ (e : s ≡ t). e)
     (λ (n : s ≢ t).
-    let unsound : Sound edition p → ⊥ = (λ S. n (A .sound S ∙ sym (B .sound S))) in
+    let unsound : Sound (layoutOf p) p → ⊥ = (λ S. n (A .sound S ∙ sym (B .sound S))) in
     A .unsound unsound ∙ sym (B .unsound unsound))
     (same-list s t)
 

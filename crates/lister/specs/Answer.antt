@@ -4,7 +4,7 @@ use mathlib.Core.List.{List, [], _∷_}
 use Prim.Native.Nat.{ℕ, _%_, _≤_, _<_}
 use lib.ListN.{length, take}
 use Rattle.io.specs.Counts.{Counts}
-use Rattle.pool.specs.Words.{edition}
+use Rattle.pool.specs.Words.{layoutOf}
 use Rattle.pool.specs.Sound.{Sound}
 use Rattle.lister.specs.Bytes.{wordsOf}
 use Rattle.lister.specs.Listing.{listing}
@@ -20,8 +20,8 @@ damaged = 100 ∷ 97 ∷ 109 ∷ 97 ∷ 103 ∷ 101 ∷ 100 ∷ 10 ∷ []
 
 -- the text for the words p
 pub record WordsSay (p text : List ℕ) : Type 0 where
-  pub unsound : (Sound edition p → ⊥) → text ≡ damaged
-  pub sound : Sound edition p → text ≡ listing p
+  pub unsound : (Sound (layoutOf p) p → ⊥) → text ≡ damaged
+  pub sound : Sound (layoutOf p) p → text ≡ listing p
 
 -- the text for bytes: the length is tested first, then whether they are whole words
 pub record BytesSay (bytes text : List ℕ) : Type 0 where

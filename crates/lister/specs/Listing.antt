@@ -1,7 +1,7 @@
 -- The listing of a sound pool, as text.
 use mathlib.Core.List.{List, [], _∷_, _++_}
 use Prim.Native.Nat.{ℕ, zero, suc, _^_}
-use Rattle.pool.specs.Words.{edition, headerWord}
+use Rattle.pool.specs.Words.{layoutOf, headerWord}
 use Rattle.pool.specs.Sound.{tilesOf, blocksOf}
 use Rattle.pool.specs.Lists.{listOf}
 use Rattle.lister.specs.Text.{field}
@@ -54,7 +54,7 @@ tileLine t (id ∷ ids) = lineOf t (id ∷ ids)
 -- the lines of the first n tiles of the words p
 abbrev pub tileLines : List ℕ → (n : ℕ) → List ℕ
 tileLines p zero = []
-tileLines p (suc t) = tileLines p t ++ tileLine t (listOf edition (tilesOf p) p t)
+tileLines p (suc t) = tileLines p t ++ tileLine t (listOf (layoutOf p) (tilesOf p) p t)
 
 -- the line of the screen, and those of all tiles
 unfoldable pub listing : List ℕ → List ℕ

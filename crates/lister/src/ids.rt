@@ -3,14 +3,13 @@ ghost use mathlib.Core.Path.{_≡_};
 ghost use Prim.Native.Nat.{_+_, _<_, _≤_};
 ghost use lib.ListN.{length, take, drop};
 ghost use Rattle.io.specs.Counts.{Counts};
-ghost use Rattle.pool.specs.Words.{edition, start};
+ghost use Rattle.pool.specs.Words.{start};
+ghost use Rattle.pool.specs.Editions.{layoutFor, Sized};
 ghost use Rattle.pool.specs.Sound.{Sound, tilesOf};
 ghost use Rattle.pool.specs.Lists.{listOf};
 ghost use Rattle.pool.specs.Written.{written};
 use numbers::wide;
-use pool::BLOCK_IDS;
-use pool::BLOCK_WORDS;
-use pool::HEADER_WORDS;
+use pool::Edition;
 use pool::TILE_WORDS;
 use pool::share;
 use screen::Tile;
@@ -28,23 +27,24 @@ fn copy(pool: &[u32], from: usize, count: usize, ids: &mut [u32], at: usize)
 }
 
 // Puts the list of a tile of a sound pool, whose blocks start at `from`, at the start of `ids`, and answers how many ids there are.
-pub fn tile_ids(pool: &[u32], from: usize, tile: Tile, ids: &mut [u32]) -> usize
-    requires { ⌜ Sound edition (now pool) ⌝ }
-    requires { ⌜ (from ≡ start edition (tilesOf (now pool))) × (tile .0 < tilesOf (now pool)) ⌝ }
-    requires { ⌜ length (listOf edition (tilesOf (now pool)) (now pool) (tile .0)) ≤ length (now ids) ⌝ }
+pub fn tile_ids(pool: &[u32], layout: Edition, from: usize, tile: Tile, ids: &mut [u32]) -> usize
+    requires { ⌜ (Sound (layoutFor layout) (now pool)) × Sized (layoutFor layout) ⌝ }
+    requires { ⌜ (from ≡ start (layoutFor layout) (tilesOf (now pool))) × (tile .0 < tilesOf (now pool)) ⌝ }
+    requires { ⌜ length (listOf (layoutFor layout) (tilesOf (now pool)) (now pool) (tile .0)) ≤ length (now ids) ⌝ }
     ensures within { λ r. ⌜ Counts r (now (ids .exit)) ⌝ }
-    ensures whole { λ r. ⌜ take r (now (ids .exit)) ≡ listOf edition (tilesOf (now (pool .entry))) (now (pool .entry)) (tile .0) ⌝ }
+    ensures whole { λ r. ⌜ take r (now (ids .exit)) ≡ listOf (layoutFor layout) (tilesOf (now (pool .entry))) (now (pool .entry)) (tile .0) ⌝ }
 {
     let number = wide(tile.0);
-    let at = HEADER_WORDS + TILE_WORDS * number;
+    let at = layout.header + TILE_WORDS * number;
     let entries = wide(pool[at]);
     let mut link = pool[at + 1];
     let mut done = 0;
     while done < entries {
-        let block = from + BLOCK_WORDS * wide(link - 1);
-        let k = share(entries - done);
+        let b = wide(link - 1);
+        let block = from + layout.ids * b + b;
+        let k = share(layout.ids, entries - done);
         copy(pool, block, k, ids, done);
-        link = pool[block + BLOCK_IDS];
+        link = pool[block + layout.ids];
         done += k;
     }
     done

@@ -4,7 +4,8 @@ ghost use mathlib.Core.Path.{_≡_};
 ghost use Prim.Native.Nat.{_+_, _^_, _<_, _≤_};
 ghost use lib.ListN.{length};
 ghost use Rattle.screen.specs.Screen.{Allowed};
-ghost use Rattle.pool.specs.Words.{edition, start};
+ghost use Rattle.pool.specs.Words.{layoutOf, start};
+ghost use Rattle.pool.specs.Editions.{layoutFor, Sized};
 ghost use Rattle.pool.specs.Sound.{Sound, tilesOf};
 ghost use Rattle.pool.specs.Lists.{listOf};
 ghost use Rattle.audit.specs.Answer.{HeaderOf};
@@ -14,6 +15,7 @@ use crate::ids::tile_ids;
 use crate::text::put_field;
 use crate::text::put_text;
 use audit::Header;
+use pool::Edition;
 use screen::Screen;
 use screen::Tile;
 
@@ -75,44 +77,46 @@ fn put_line(tile: Tile, ids: &[u32], out: &mut [u8], at: usize) -> usize
 // The line of a tile of a sound pool, and nothing where its list is empty. `ids` has room for the list.
 fn put_tile(
     pool: &[u32],
+    layout: Edition,
     from: usize,
     tile: Tile,
     ids: &mut [u32],
     out: &mut [u8],
     at: usize,
 ) -> usize
-    requires { ⌜ Sound edition (now pool) ⌝ }
-    requires { ⌜ (from ≡ start edition (tilesOf (now pool))) × (tile .0 < tilesOf (now pool)) ⌝ }
-    requires { ⌜ length (listOf edition (tilesOf (now pool)) (now pool) (tile .0)) ≤ length (now ids) ⌝ }
-    requires { ⌜ at + length (tileLine (tile .0) (listOf edition (tilesOf (now pool)) (now pool) (tile .0))) ≤ length (now out) ⌝ }
-    ensures { λ r. ⌜ Puts (now (out .entry)) at (tileLine (tile .0) (listOf edition (tilesOf (now (pool .entry))) (now (pool .entry)) (tile .0))) (now (out .exit)) r ⌝ }
+    requires { ⌜ (Sound (layoutFor layout) (now pool)) × Sized (layoutFor layout) ⌝ }
+    requires { ⌜ (from ≡ start (layoutFor layout) (tilesOf (now pool))) × (tile .0 < tilesOf (now pool)) ⌝ }
+    requires { ⌜ length (listOf (layoutFor layout) (tilesOf (now pool)) (now pool) (tile .0)) ≤ length (now ids) ⌝ }
+    requires { ⌜ at + length (tileLine (tile .0) (listOf (layoutFor layout) (tilesOf (now pool)) (now pool) (tile .0))) ≤ length (now out) ⌝ }
+    ensures { λ r. ⌜ Puts (now (out .entry)) at (tileLine (tile .0) (listOf (layoutFor layout) (tilesOf (now (pool .entry))) (now (pool .entry)) (tile .0))) (now (out .exit)) r ⌝ }
 {
-    let count = tile_ids(pool, from, tile, ids);
+    let count = tile_ids(pool, layout, from, tile, ids);
     if count == 0 {
         return at;
     }
     put_line(tile, &ids[..count], out, at)
 }
 
-// The lines of all tiles of a sound pool. `ids` has room for every list.
-fn put_tiles(
-    pool: &[u32],
-    from: usize,
-    tiles: u32,
-    ids: &mut [u32],
-    out: &mut [u8],
-    at: usize,
-) -> usize
-    requires { ⌜ Sound edition (now pool) ⌝ }
-    requires { ⌜ (from ≡ start edition (tilesOf (now pool))) × (tiles ≡ tilesOf (now pool)) ⌝ }
+// The lines of all tiles of a sound pool with that header. `ids` has room for every list.
+fn put_tiles(pool: &[u32], header: Header, ids: &mut [u32], out: &mut [u8], at: usize) -> usize
+    requires { ⌜ Sound (layoutOf (now pool)) (now pool) ⌝ }
+    requires { ⌜ HeaderOf (layoutOf (now pool)) (now pool) header ⌝ }
     requires { ⌜ length (now pool) ≤ length (now ids) ⌝ }
-    requires { ⌜ at + length (tileLines (now pool) tiles) ≤ length (now out) ⌝ }
-    ensures { λ r. ⌜ Puts (now (out .entry)) at (tileLines (now (pool .entry)) tiles) (now (out .exit)) r ⌝ }
+    requires { ⌜ at + length (tileLines (now pool) (tilesOf (now pool))) ≤ length (now out) ⌝ }
+    ensures { λ r. ⌜ Puts (now (out .entry)) at (tileLines (now (pool .entry)) (tilesOf (now (pool .entry)))) (now (out .exit)) r ⌝ }
 {
     let mut next = at;
     let mut t = 0;
-    while t < tiles {
-        next = put_tile(pool, from, Tile(t), ids, out, next);
+    while t < header.tiles {
+        next = put_tile(
+            pool,
+            header.layout,
+            header.start,
+            Tile(t),
+            ids,
+            out,
+            next,
+        );
         t += 1;
     }
     next
@@ -120,12 +124,12 @@ fn put_tiles(
 
 // The whole listing of a sound pool with that header, at the start of the buffer.
 pub fn put_listing(pool: &[u32], header: Header, ids: &mut [u32], out: &mut [u8]) -> usize
-    requires { ⌜ Sound edition (now pool) ⌝ }
-    requires { ⌜ HeaderOf edition (now pool) header ⌝ }
+    requires { ⌜ Sound (layoutOf (now pool)) (now pool) ⌝ }
+    requires { ⌜ HeaderOf (layoutOf (now pool)) (now pool) header ⌝ }
     requires { ⌜ length (now pool) ≤ length (now ids) ⌝ }
     requires { ⌜ length (listing (now pool)) ≤ length (now out) ⌝ }
     ensures { λ r. ⌜ Puts (now (out .entry)) 0 (listing (now (pool .entry))) (now (out .exit)) r ⌝ }
 {
     let at = put_screen(header.screen, header.blocks, pool[4], out, 0);
-    put_tiles(pool, header.start, header.tiles, ids, out, at)
+    put_tiles(pool, header, ids, out, at)
 }

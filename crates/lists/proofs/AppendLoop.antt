@@ -8,10 +8,9 @@ use native.Mathlib.Omega.{arith}
 use borrow.Author.Tests.{eq-eqb, ne-eqb}
 use lib.ListN.{length, getD, take, drop}
 use lib.Seq.{drop-cons, getD-take, length-take-le, drop-length}
-use Rattle.pool.specs.Words.{Layout, edition, headerWord, tileWord}
+use Rattle.pool.specs.Words.{Layout, headerWord, tileWord}
 use Rattle.pool.specs.State.{one, times}
 use Rattle.pool.specs.Sound.{Sound, tilesOf}
-use Rattle.pool.proofs.Words.{edition-fair}
 use Rattle.pool.proofs.Times.{times-head, times-tail}
 use Rattle.pool.proofs.Header.{keeps-tiles}
 use Rattle.lists.specs.Appending.{multiple, need, append, appendAll, Distinct}
@@ -49,21 +48,21 @@ need-kept L p q (t ∷ ts) same =
     (need-kept L p q ts (λ u h. same u (times-tail u t ts h)))
 
 -- the tiles `rest` are left, and to append to them ends in the words e
-pub record Appending (p : List ℕ) (T : ℕ) (rest : List ℕ) (id : ℕ) (e : List ℕ) : Type 0 where
-  pub ready : Appendable p T rest id
-  pub ends : appendAll edition T p rest id ≡ e
+pub record Appending (L : Layout) (p : List ℕ) (T : ℕ) (rest : List ℕ) (id : ℕ) (e : List ℕ) : Type 0 where
+  pub ready : Appendable L p T rest id
+  pub ends : appendAll L T p rest id ≡ e
 
-pub among-first : {p : List ℕ} {T t : ℕ} {ts : List ℕ} → AllAmong p T (t ∷ ts) → Among p T t
-among-first {p} {T} {t} {ts} M = record { sound = M .sound; tiles = M .tiles; tile = M .distinct .below t (times-head t ts) }
+pub among-first : {L : Layout} {p : List ℕ} {T t : ℕ} {ts : List ℕ} → AllAmong L p T (t ∷ ts) → Among L p T t
+among-first {L} {p} {T} {t} {ts} M = record { sound = M .sound; sized = M .sized; tiles = M .tiles; tile = M .distinct .below t (times-head t ts) }
 
-pub among-rest : {p : List ℕ} {T t : ℕ} {ts : List ℕ} → AllAmong p T (t ∷ ts) → AllAmong p T ts
-among-rest M = record { sound = M .sound; tiles = M .tiles; distinct = distinct-rest (M .distinct) }
+pub among-rest : {L : Layout} {p : List ℕ} {T t : ℕ} {ts : List ℕ} → AllAmong L p T (t ∷ ts) → AllAmong L p T ts
+among-rest M = record { sound = M .sound; sized = M .sized; tiles = M .tiles; distinct = distinct-rest (M .distinct) }
 
-module _ {p : List ℕ} {T : ℕ} {t : ℕ} {rest : List ℕ} {id : ℕ} {e : List ℕ} (G : Appending p T (t ∷ rest) id e) where
-  pub appending-enough : need edition p (t ∷ []) ≤ headerWord p 4
-  appending-enough = omega (arith, need-parts edition p t rest, G .ready .enough)
+module _ {L : Layout} {p : List ℕ} {T : ℕ} {t : ℕ} {rest : List ℕ} {id : ℕ} {e : List ℕ} (G : Appending L p T (t ∷ rest) id e) where
+  pub appending-enough : need L p (t ∷ []) ≤ headerWord p 4
+  appending-enough = omega (arith, need-parts L p t rest, G .ready .enough)
 
-  pub appending-step : (q : List ℕ) → q ≡ append edition T p t id → Appending q T rest id e
+  pub appending-step : (q : List ℕ) → q ≡ append L T p t id → Appending L q T rest id e
   unfolding appendAll
   appending-step q f =
       let among = G .ready .among in
@@ -72,29 +71,30 @@ module _ {p : List ℕ} {T : ℕ} {t : ℕ} {rest : List ℕ} {id : ℕ} {e : Li
         once = λ u. omega (arith, D .once u);
         below = λ u h. subst (λ (n : ℕ). u < n) (among .tiles) (D .below u (omega arith));
       } in
-      let M = append-all-appends edition-fair (among .sound) (t ∷ []) id D₁ (G .ready .in-range) appending-enough in
-      let f′ : q ≡ appendAll edition (tilesOf p) p (t ∷ []) id = f ∙ ap (λ (n : ℕ). append edition n p t id) (among .tiles) in
+      let M = append-all-appends (among .sized .fair) (among .sound) (t ∷ []) id D₁ (G .ready .in-range) appending-enough in
+      let f′ : q ≡ appendAll L (tilesOf p) p (t ∷ []) id = f ∙ ap (λ (n : ℕ). append L n p t id) (among .tiles) in
       let K = M .kept in
-      let same : (u : ℕ) → 0 < times u rest → tileWord edition q u 0 ≡ tileWord edition p u 0
+      let same : (u : ℕ) → 0 < times u rest → tileWord L q u 0 ≡ tileWord L p u 0
       = (λ u h.
       let hu : u < tilesOf p = subst (λ (n : ℕ). u < n) (among .tiles) (D .below u (times-tail u t rest h)) in
       let z : times u (t ∷ []) ≡ 0 = omega (arith, D .once u) in
-      ap (λ (w : List ℕ). tileWord edition w u 0) f′ ∙ K .tiles u hu z 0 (omega arith)) in
-      let n = need-kept edition p q rest same in
-      let h4 : headerWord q 4 + need edition p (t ∷ []) ≡ headerWord p 4 = ap (λ (w : List ℕ). headerWord w 4 + need edition p (t ∷ [])) f′ ∙ M .taken in
+      ap (λ (w : List ℕ). tileWord L w u 0) f′ ∙ K .tiles u hu z 0 (omega (arith, among .sized .fair .tile>))) in
+      let n = need-kept L p q rest same in
+      let h4 : headerWord q 4 + need L p (t ∷ []) ≡ headerWord p 4 = ap (λ (w : List ℕ). headerWord w 4 + need L p (t ∷ [])) f′ ∙ M .taken in
       record {
         ready = record {
           among = record {
-            sound = subst (Sound edition) (sym f′) (M .sound);
-            tiles = among .tiles ∙ sym (ap tilesOf f′ ∙ keeps-tiles edition-fair (kept-keeps K));
+            sound = subst (Sound L) (sym f′) (M .sound);
+            sized = among .sized;
+            tiles = among .tiles ∙ sym (ap tilesOf f′ ∙ keeps-tiles (among .sized .fair) (kept-keeps K));
             distinct = distinct-rest D;
           };
           in-range = G .ready .in-range;
-          enough = omega (arith, need-parts edition p t rest, G .ready .enough);
+          enough = omega (arith, need-parts L p t rest, G .ready .enough);
         };
-        ends = ap (λ (w : List ℕ). appendAll edition T w rest id) f ∙ G .ends;
+        ends = ap (λ (w : List ℕ). appendAll L T w rest id) f ∙ G .ends;
       }
 
-pub appending-end : {p : List ℕ} {T id : ℕ} {e : List ℕ} → Appending p T [] id e → p ≡ e
+pub appending-end : {L : Layout} {p : List ℕ} {T id : ℕ} {e : List ℕ} → Appending L p T [] id e → p ≡ e
 unfolding appendAll
 appending-end G = G .ends

@@ -3,53 +3,59 @@ use Prim.Native.Nat.{ℕ, suc, _+_, _*_, _-_, _^_, _≤_, _<_}
 use mathlib.Core.Path.{_≡_}
 use mathlib.Core.List.{List}
 use lib.ListN.{length}
-use Rattle.pool.specs.Words.{edition, start, headerWord, tileWord}
+use Rattle.pool.specs.Words.{Layout, start, headerWord, tileWord}
 use Rattle.pool.specs.Sound.{Sound, tilesOf}
+use Rattle.pool.specs.Editions.{Sized}
 use Rattle.lists.specs.Appending.{need, Distinct}
 
 -- word i of tile t lies in the pool
-abbrev pub TileIn : List ℕ → (t i : ℕ) → Type 0
-TileIn p t i = edition .header + edition .tile * t + i < length p
+abbrev pub TileIn : Layout → List ℕ → (t i : ℕ) → Type 0
+TileIn L p t i = L .header + L .tile * t + i < length p
 
 -- word k of block b does
-abbrev pub BlockIn : (T : ℕ) → List ℕ → (b k : ℕ) → Type 0
-BlockIn T p b k = start edition T + suc (edition .ids) * b + k < length p
+abbrev pub BlockIn : Layout → (T : ℕ) → List ℕ → (b k : ℕ) → Type 0
+BlockIn L T p b k = start L T + suc (L .ids) * b + k < length p
 
 -- a sound pool of T tiles, and one of its tiles
-pub record Among (p : List ℕ) (T t : ℕ) : Type 0 where
-  pub sound : Sound edition p
+pub record Among (L : Layout) (p : List ℕ) (T t : ℕ) : Type 0 where
+  pub sound : Sound L p
+  pub sized : Sized L
   pub tiles : T ≡ tilesOf p
   pub tile : t < T
 
 -- a sound pool of T tiles, and some of its tiles, none of them twice
-pub record AllAmong (p : List ℕ) (T : ℕ) (ts : List ℕ) : Type 0 where
-  pub sound : Sound edition p
+pub record AllAmong (L : Layout) (p : List ℕ) (T : ℕ) (ts : List ℕ) : Type 0 where
+  pub sound : Sound L p
+  pub sized : Sized L
   pub tiles : T ≡ tilesOf p
   pub distinct : Distinct T ts
 
 -- such tiles, to which an id can be appended
-pub record Appendable (p : List ℕ) (T : ℕ) (ts : List ℕ) (id : ℕ) : Type 0 where
-  pub among : AllAmong p T ts
-  pub in-range : id < edition .limit
-  pub enough : need edition p ts ≤ headerWord p 4
+pub record Appendable (L : Layout) (p : List ℕ) (T : ℕ) (ts : List ℕ) (id : ℕ) : Type 0 where
+  pub among : AllAmong L p T ts
+  pub in-range : id < L .limit
+  pub enough : need L p ts ≤ headerWord p 4
 
 -- a tile whose last block has room
-pub record Roomy (p : List ℕ) (T t : ℕ) : Type 0 where
-  pub tile : TileIn p t 3
-  pub last : 0 < tileWord edition p t 2
-  pub block : BlockIn T p (tileWord edition p t 2 - 1) (edition .ids)
-  pub fits : tileWord edition p t 0 + 1 < 2 ^ 32
+pub record Roomy (L : Layout) (p : List ℕ) (T t : ℕ) : Type 0 where
+  pub sized : Sized L
+  pub tile : TileIn L p t 3
+  pub last : 0 < tileWord L p t 2
+  pub block : BlockIn L T p (tileWord L p t 2 - 1) (L .ids)
+  pub fits : tileWord L p t 0 + 1 < 2 ^ 32
 
 -- a block that is to be taken for a tile
-pub record Takeable (p : List ℕ) (T t b : ℕ) : Type 0 where
-  pub tile : TileIn p t 3
-  pub block : BlockIn T p b (edition .ids)
+pub record Takeable (L : Layout) (p : List ℕ) (T t b : ℕ) : Type 0 where
+  pub sized : Sized L
+  pub tile : TileIn L p t 3
+  pub block : BlockIn L T p b (L .ids)
   pub free : 0 < headerWord p 4
   pub number : b + 1 < 2 ^ 32
-  pub fits : tileWord edition p t 0 + 1 < 2 ^ 32
+  pub fits : tileWord L p t 0 + 1 < 2 ^ 32
 
 -- a block that is to be given back
-pub record Givable (p : List ℕ) (T b : ℕ) : Type 0 where
-  pub block : BlockIn T p b (edition .ids)
+pub record Givable (L : Layout) (p : List ℕ) (T b : ℕ) : Type 0 where
+  pub sized : Sized L
+  pub block : BlockIn L T p b (L .ids)
   pub number : b + 1 < 2 ^ 32
   pub fits : headerWord p 4 + 1 < 2 ^ 32

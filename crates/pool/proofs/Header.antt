@@ -36,6 +36,8 @@ module _ {L : Layout} {p q : List ℕ} (A : Fair L) (K : Keeps L p q) where
     blocks≤ = rw keeps-blocks (O .blocks≤);
     table-at = K .fixed 6 (omega (arith, A .header>)) (omega arith) (omega arith) ∙ O .table-at;
     blocks-at = K .fixed 7 (A .header>) (omega arith) (omega arith) ∙ O .blocks-at ∙ (λ i. start L (sym keeps-tiles i));
+    size-at = λ h. K .fixed 8 h (omega arith) (omega arith) ∙ O .size-at h;
+    zero-at = λ h. K .fixed 9 h (omega arith) (omega arith) ∙ O .zero-at h;
     long = subst (λ (n : ℕ). n ≤ length q) (λ i. room L (sym keeps-tiles i) (sym keeps-blocks i)) (rw (K .long) (O .long));
   }
 

@@ -9,5 +9,6 @@ pub mod Unique
 pub mod Header
 pub mod Rising
 pub mod Written
+pub mod Editions
 pub mod Opening
 pub mod Room

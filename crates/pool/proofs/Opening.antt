@@ -5,16 +5,17 @@ use Prim.Native.Nat.{ℕ, zero, suc, _+_, _*_, _-_, _≤_, _<_, zero-le}
 use native.Mathlib.Nat.{le-of-suc-le-suc, not-suc-le-zero}
 use native.Mathlib.Omega.{arith}
 use lib.ListN.{length, getD, drop, length-append, length-drop, replicate, length-replicate, getD-replicate, List·getD-append}
-use lib.Seq.{getD-append-add, getD-at, getD-drop}
+use lib.Seq.{getD-append-add, getD-at, getD-drop, getD-take}
 use Rattle.screen.specs.declared.Screen.{Screen}
 use Rattle.screen.specs.Screen.{Allowed, tiles}
-use Rattle.pool.specs.Words.{Layout, edition, Fair, start, room, headerWord, tileWord, blockWord}
+use Rattle.pool.specs.Words.{Layout, Known, one, two-32, two-64, Fair, start, room, headerWord, tileWord, blockWord}
 use Rattle.pool.specs.State.{Chained, empty, linkTo, timesInTiles}
 use Rattle.pool.specs.Sound.{screenOf, tilesOf, blocksOf, Opened, Shows, Sound}
 use Rattle.pool.specs.Lists.{listOf}
-use Rattle.pool.specs.Opening.{rising, headerFor, freeBlock, freeBlocks, opening, openingState}
+use Rattle.pool.specs.Opening.{rising, headerRest, headerFor, freeBlock, freeBlocks, opening, openingState}
 use Rattle.pool.specs.Written.{written}
-use Rattle.pool.proofs.Words.{edition-fair, row-within}
+use Rattle.pool.proofs.Words.{row-within}
+use Rattle.pool.proofs.Editions.{known-fair}
 use Rattle.pool.proofs.Parts.{ceil-none}
 use Rattle.pool.proofs.Rising.{length-rising, times-rising, times-rising-above, holds-rising}
 use Rattle.pool.proofs.Lists.{listOf-shows}
@@ -144,6 +145,10 @@ module _ (L : Layout) where
       at : (k : ℕ) → k ≤ 7 → headerWord (opening L d N p) k ≡ getD (headerFor L d N) k 0
       at k h = opening-header k (omega (arith, A .header>))
 
+      -- a word of the header after the eighth
+      rest-at : (k : ℕ) → k < 2 → k < L .header - 8 → getD (headerRest L) k 0 ≡ getD (suc (L .ids) ∷ 0 ∷ []) k 0
+      rest-at k h l = getD-take (L .header - 8) (suc (L .ids) ∷ 0 ∷ []) k 0 l
+
       pub opening-screen : screenOf (opening L d N p) ≡ d
       unfolding headerFor
       opening-screen = λ i. record { width = at 0 (omega arith) i; height = at 1 (omega arith) i; s = at 2 (omega arith) i }
@@ -167,6 +172,8 @@ module _ (L : Layout) where
         blocks≤ = rw opening-blocks few;
         table-at = at 6 (omega arith);
         blocks-at = at 7 (omega arith) ∙ (λ i. start L (sym opening-tiles i));
+        size-at = λ h. opening-header 8 h ∙ rest-at 0 (omega arith) (omega arith);
+        zero-at = λ h. opening-header 9 h ∙ rest-at 1 (omega arith) (omega arith);
         long = subst (λ (n : ℕ). n ≤ length (opening L d N p)) (λ i. room L (sym opening-tiles i) (sym opening-blocks i)) (rw (opening-length long) long);
       }
 
@@ -204,11 +211,14 @@ module _ (L : Layout) where
             (subst (λ (M : ℕ). Shows L (tiles d) M (opening L d N p) (openingState (tiles d) N)) (sym opening-blocks) opening-shows);
       }
 
--- ---- the first edition
+-- ---- in a layout that there is
 
-pub header-fits : (d : Screen) (N : ℕ) → length (headerFor edition d N) ≡ edition .header
+pub header-fits : {L : Layout} → Known L → (d : Screen) (N : ℕ) → length (headerFor L d N) ≡ L .header
 unfolding headerFor
-header-fits d N = refl
+header-fits one d N = refl
+header-fits two-32 d N = refl
+header-fits two-64 d N = refl
 
-pub open-sound : (d : Screen) (N : ℕ) (p : List ℕ) → Allowed d → N ≤ 2048 → room edition (tiles d) N ≤ length p → Sound edition (opening edition d N p)
-open-sound d N p = opening-sound edition d N p (header-fits d N) edition-fair
+pub open-sound : {L : Layout} (k : Known L) (d : Screen) (N : ℕ) (p : List ℕ) → Allowed d → N ≤ 2048 → room L (tiles d) N ≤ length p
+    → Sound L (opening L d N p)
+open-sound {L} k d N p = opening-sound L d N p (header-fits k d N) (known-fair k)

@@ -7,7 +7,7 @@ use native.Mathlib.Omega.{arith}
 use lib.ListN.{length, getD, replicate, length-append, length-replicate, List·getD-append}
 use Rattle.screen.specs.declared.Screen.{Screen}
 use Rattle.screen.specs.Screen.{Allowed, tiles}
-use Rattle.pool.specs.Words.{Layout, Fair, start, room, headerWord, tileWord, blockWord}
+use Rattle.pool.specs.Words.{Layout, layoutOf, Fair, start, room, headerWord, tileWord, blockWord}
 use Rattle.pool.specs.State.{State}
 use Rattle.pool.specs.Sound.{screenOf, tilesOf, blocksOf, Shows, Sound}
 use Rattle.pool.specs.Opening.{headerFor, freeBlocks, opening}
@@ -15,6 +15,7 @@ use Rattle.pool.proofs.Words.{row-within, header≤start, start≤room}
 use Rattle.pool.proofs.Chain.{frame}
 use Rattle.pool.proofs.State.{tile-block<, free-block<, tile-frame}
 use Rattle.pool.proofs.Written.{length-freeBlocks}
+use Rattle.pool.proofs.Editions.{same-layout}
 
 -- q has the words of p in the room of T tiles and N blocks
 pub record Agree (L : Layout) (T N : ℕ) (p q : List ℕ) : Type 0 where
@@ -47,6 +48,10 @@ module _ {L : Layout} {T N : ℕ} {p q : List ℕ} (W : Agree L T N p q) where
     none = R .none;
   }
 
+-- so it says the same layout
+pub agree-layout : {T N : ℕ} {p q : List ℕ} → Agree (layoutOf p) T N p q → layoutOf q ≡ layoutOf p
+agree-layout {p = p} {q = q} W = same-layout p q (header-agrees W)
+
 -- ---- the room that the header of p says
 
 module _ {L : Layout} {p q : List ℕ} (A : Fair L) (W : Agree L (tilesOf p) (blocksOf p) p q) where
@@ -72,6 +77,8 @@ module _ {L : Layout} {p q : List ℕ} (A : Fair L) (W : Agree L (tilesOf p) (bl
       blocks≤ = rw agree-blocks (S .opened .blocks≤);
       table-at = at 6 (omega arith) ∙ S .opened .table-at;
       blocks-at = at 7 (omega arith) ∙ S .opened .blocks-at ∙ (λ i. start L (sym agree-tiles i));
+      size-at = λ h. header-agrees W 8 h ∙ S .opened .size-at h;
+      zero-at = λ h. header-agrees W 9 h ∙ S .opened .zero-at h;
       long = rw agree-room long;
     };
     state = S .state;

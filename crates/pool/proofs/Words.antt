@@ -8,10 +8,13 @@ use native.Mathlib.Omega.{arith}
 use lib.ListN.{length, getD, set, length-set}
 use lib.Seq.{getD-set-same, getD-set-other}
 use Rattle.numbers.proofs.Ceil.{lt-or-ge}
-use Rattle.pool.specs.Words.{Layout, edition, Fair, start, room, headerWord, tileWord, blockWord, headerSet, tileSet, blockSet}
+use Rattle.pool.specs.Words.{Layout, edition, second, Fair, start, room, headerWord, tileWord, blockWord, headerSet, tileSet, blockSet}
 
 pub edition-fair : Fair edition
 edition-fair = omega arith
+
+pub second-fair : (words : ℕ) → 1 < words → Fair (second words)
+second-fair words h = omega arith
 
 -- two places in a table of rows of w words are one only if row and column are
 pub row-differs : (w : ℕ) {r s i j : ℕ} → i < w → j < w → r ≢ s → w * r + i ≢ w * s + j

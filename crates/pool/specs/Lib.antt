@@ -4,3 +4,4 @@ pub mod Sound
 pub mod Lists
 pub mod Opening
 pub mod Written
+pub mod Editions

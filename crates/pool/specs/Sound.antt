@@ -1,7 +1,7 @@
 -- When a slice of words is a sound pool.
 use mathlib.Core.Path.{_≡_}
 use mathlib.Core.List.{List, []}
-use Prim.Native.Nat.{ℕ, _*_, _≤_, _<_}
+use Prim.Native.Nat.{ℕ, suc, _*_, _≤_, _<_}
 use lib.ListN.{length, getD}
 use Rattle.numbers.specs.Ceil.{ceil}
 use Rattle.screen.specs.declared.Screen.{Screen}
@@ -20,12 +20,14 @@ tilesOf p = tiles (screenOf p)
 abbrev pub blocksOf : List ℕ → ℕ
 blocksOf p = headerWord p 3
 
--- words 0 to 3, 6 and 7 are as an accepted opening would write them, and the slice is long enough
+-- words 0 to 3, 6 and 7 are as an accepted opening would write them, and 8 and 9 where the header has them; and the slice is long enough
 pub record Opened (L : Layout) (p : List ℕ) : Type 0 where
   pub screen : Allowed (screenOf p)
   pub blocks≤ : blocksOf p ≤ 2048
   pub table-at : headerWord p 6 ≡ L .header
   pub blocks-at : headerWord p 7 ≡ start L (tilesOf p)
+  pub size-at : 8 < L .header → headerWord p 8 ≡ suc (L .ids)
+  pub zero-at : 9 < L .header → headerWord p 9 ≡ 0
   pub long : room L (tilesOf p) (blocksOf p) ≤ length p
 
 -- the words of tile t say x

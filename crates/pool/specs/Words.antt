@@ -1,6 +1,8 @@
 -- The pool as a list of words, and its three kinds of word: of the header, of a tile, of a block.
+use mathlib.Core.Bool.{cond}
 use mathlib.Core.List.{List}
-use Prim.Native.Nat.{ℕ, suc, _+_, _*_, _<_}
+use Prim.Native.Nat.{ℕ, suc, _+_, _*_, _-_, _<_}
+use lib.Dec.{eqb}
 use lib.ListN.{getD, set}
 
 -- What one edition of the pool differs from another in.
@@ -20,6 +22,16 @@ pub record Layout : Type 0 where
 abbrev pub edition : Layout
 edition = record { header = 8; tile = 4; ids = 31; limit = 16777216; poison = 0xDEADBEEF }
 
+-- the second edition, by the words of a block: the header has ten, and all but the last of a block are for ids
+abbrev pub second : (words : ℕ) → Layout
+second words = record { header = 10; tile = 4; ids = words - 1; limit = 16777216; poison = 0xDEADBEEF }
+
+-- the layouts that there are
+pub data Known : Layout → Type 0 where
+  one : Known edition
+  two-32 : Known (second 32)
+  two-64 : Known (second 64)
+
 -- what the laws ask of a layout
 pub record Fair (L : Layout) : Type 0 where
   pub header> : 7 < L .header
@@ -37,6 +49,10 @@ room L T N = start L T + suc (L .ids) * N
 -- word k of the header
 unfoldable pub headerWord : List ℕ → (k : ℕ) → ℕ
 headerWord p k = getD p k 0
+
+-- the layout of given words: word 6 tells the editions apart, and in the second one word 8 the block sizes
+unfoldable pub layoutOf : List ℕ → Layout
+layoutOf p = cond (eqb (headerWord p 6) 10) (cond (eqb (headerWord p 8) 64) (second 64) (second 32)) edition
 
 -- word i of tile t
 unfoldable pub tileWord : Layout → List ℕ → (t i : ℕ) → ℕ

@@ -4,7 +4,8 @@ use native.Mathlib.Omega.{arith}
 use borrow.Author.Tests.{not-true, not-false}
 use denote.Ref.{now}
 use Rattle.numbers.proofs.Says.{says-no, says-iff}
-use Rattle.pool.specs.Words.{edition, headerWord}
+use Rattle.pool.specs.Words.{headerWord}
+use Rattle.pool.specs.Editions.{layoutFor}
 use Rattle.audit.specs.Walk.{WalkSays}
 use Rattle.audit.proofs.Passing.{zeros}
 use Rattle.audit.proofs.Reading.{of-free}
@@ -14,12 +15,12 @@ use Rattle.audit.proofs.chains_right.Tie as tie
 
 -- what the walk along the free blocks says, of the words of the header
 told : (c : tie.After-walk) → let a = c .before .before .before .before .before .before .before .before .before .before .args in
-    WalkSays edition (now (a .pool)) (a .from) (a .blocks) (headerWord (now (a .pool)) 5) 0 (headerWord (now (a .pool)) 4)
+    WalkSays (layoutFor (a .layout)) (now (a .pool)) (a .from) (a .blocks) (headerWord (now (a .pool)) 5) 0 (headerWord (now (a .pool)) 4)
     (c .before .before .before .before .before .before .before .tiles-right .last .1 .0) (c .walk .last .1 .0) (c .walk .result)
 unfolding headerWord
 told c =
     let a = c .before .before .before .before .before .before .before .before .before .before .args in
-    of-free edition (now (a .pool)) (a .from) (a .blocks) (c .before .before .before .before .before .before .before .tiles-right .last .1 .0) (c .walk .last .1 .0) (c .walk .result) refl
+    of-free (layoutFor (a .layout)) (now (a .pool)) (a .from) (a .blocks) (c .before .before .before .before .before .before .before .tiles-right .last .1 .0) (c .walk .last .1 .0) (c .walk .result) refl
     (c .before .wide .ensures) (c .walk .ensures)
 
 slice-aggregate-tiles-right : tie.Need-slice-aggregate-tiles-right

@@ -1,9 +1,12 @@
 -- `audit::mark_right` compares the mark with the entries, and with what the blocks hold.
+use mathlib.Core.Path.{ap}
+use Prim.Native.Nat.{ℕ, _*_, _≤_}
+use native.Mathlib.Nat.{mul-le-mul-left}
 use native.Mathlib.Omega.{arith}
 use borrow.Author.Tests.{leb-true, leb-false}
 use denote.Ref.{now}
 use Rattle.numbers.proofs.Says.{says-no}
-use Rattle.pool.specs.Words.{edition}
+use Rattle.pool.specs.Editions.{layoutFor}
 use Rattle.audit.proofs.Reading.{tile-word, tile-entries}
 use borrow.Author.Needs.{needs}
 use Rattle.audit.proofs.mark_right.Statement.{statement}
@@ -41,22 +44,29 @@ wide-requires-3 c κs = search needs
 
 returns : tie.Need-returns
 returns c =
-    let p = now (c .before .before .before .before .before .before .before .args .pool) in
-    let at = c .before .before .before .before .before .wide .ensures in
-    says-no (λ h. omega (arith, h .above, tile-entries edition p at, tile-word edition p 3 at))
+    let s = c .before .before .before .before .before .before .before .before in
+    let p = now (s .args .pool) in
+    let at = c .before .before .before .before .before .before .wide .ensures in
+    says-no (λ h. omega (arith, h .above, tile-entries (layoutFor (s .args .layout)) p at, tile-word (layoutFor (s .args .layout)) p 3 at))
 
 wide-requires-4 : tie.Need-wide-requires-4
 wide-requires-4 c κs = search needs
 
 mul-result : tie.Need-mul-result
-mul-result c = search needs
+mul-result c =
+    let s = c .before .before .before .before .before .before .before .before .before .before in
+    let h : c .before .wide4 .result ≤ 4294967295 = omega arith in
+    let w : s .args .layout .ids * c .before .wide4 .result ≤ s .args .layout .ids * 4294967295 = mul-le-mul-left (s .args .layout .ids) h in
+    omega (arith, w, s .pre .0 .ids≤)
 
 returns-2 : tie.Need-returns-2
 returns-2 c =
-    let p = now (c .before .before .before .before .before .before .before .before .args .pool) in
-    let at = c .before .before .before .before .before .before .wide .ensures in
-    let entries = tile-entries edition p at in
-    let mark = tile-word edition p 3 at in
+    let s = c .before .before .before .before .before .before .before .before .before .before in
+    let p = now (s .args .pool) in
+    let at = c .before .before .before .before .before .before .before .before .wide .ensures in
+    let entries = tile-entries (layoutFor (s .args .layout)) p at in
+    let mark = tile-word (layoutFor (s .args .layout)) p 3 at in
+    let most = ap (λ (n : ℕ). s .args .layout .ids * n) (c .before .wide4 .ensures) in
     record {
       yes = λ e. record { above = omega arith; below = omega (arith, leb-true) };
       no = λ e h. omega (arith, leb-false, h .below);

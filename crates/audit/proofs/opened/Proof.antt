@@ -5,28 +5,30 @@ use borrow.Author.Tests.{not-true, not-false}
 use denote.Ref.{now}
 use Rattle.numbers.proofs.Says.{says-yes, says-no}
 use Rattle.screen.specs.Screen.{Allowed}
-use Rattle.pool.specs.Words.{edition, start, room, headerWord}
+use Rattle.pool.specs.Words.{start, room, headerWord}
+use Rattle.pool.specs.Editions.{layoutFor}
 use Rattle.pool.specs.Sound.{screenOf, tilesOf, blocksOf}
 use borrow.Author.Needs.{needs}
 use Rattle.audit.proofs.opened.Statement.{statement}
 use Rattle.audit.proofs.opened.Tie as tie
 
 -- the screen is within the rules, past that test
-screened : (c : tie.Else2) → Allowed (screenOf (now (c .before .before .before .before .before .args .pool)))
+screened : (c : tie.Else2) → Allowed (screenOf (now (c .before .before .before .before .before .before .args .pool)))
 screened c = rw (c .before .before .screen-of .ensures) at (c .before .allowed .ensures .yes (not-false _ (c .if2 .left)))
 
 -- the room that is asked for is that of the header
-needed : (c : tie.After-room-of) → c .room-of .result ≡ room edition (tilesOf (now (c .before .before .before .before .before .before .before .before .before .before .before .before .before .before .before .before .before .before .args .pool))) (blocksOf (now (c .before .before .before .before .before .before .before .before .before .before .before .before .before .before .before .before .before .before .args .pool)))
+needed : (c : tie.After-room-of) → let a = c .before .before .before .before .before .before .before .before .before .before .before .before .before .before .before .before .before .before .before .before .before .before .args in
+    c .room-of .result ≡ room (layoutFor (a .layout)) (tilesOf (now (a .pool))) (blocksOf (now (a .pool)))
 needed c =
-    let header = c .before .before .before .before .before .before .before .before .before .before .before .before .header-of .ensures in
-    c .room-of .ensures ∙ ap₂ (room edition) (c .before .before .wide3 .ensures ∙ header .tiles) (c .before .wide4 .ensures ∙ header .blocks)
+    let header = c .before .before .before .before .before .before .before .before .before .before .before .before .before .before .before .header-of .ensures in
+    c .room-of .ensures ∙ ap₂ (room (layoutFor (c .before .before .before .before .before .before .before .before .before .before .before .before .before .before .before .before .before .before .before .before .before .before .args .layout))) (c .before .before .wide3 .ensures ∙ header .tiles) (c .before .wide4 .ensures ∙ header .blocks)
 
 returns : tie.Need-returns
 unfolding room start
-returns c = says-no (λ o. omega arith)
+returns c = says-no (λ o. omega (arith, o .long))
 
 screen-of-requires : tie.Need-screen-of-requires
-screen-of-requires c κs = search needs
+screen-of-requires c κs = omega (arith, c .before .before .before .pre .fair .header>)
 
 allowed-requires : tie.Need-allowed-requires
 allowed-requires c κs = search needs
@@ -35,7 +37,7 @@ returns-2 : tie.Need-returns-2
 returns-2 c = says-no (λ o. c .before .allowed .ensures .no (not-true _ (c .if2 .taken)) (rw (c .before .before .screen-of .ensures) (o .screen)))
 
 header-of-requires : tie.Need-header-of-requires
-header-of-requires c κs = (omega arith, screened c)
+header-of-requires c κs = (omega (arith, c .before .before .before .before .before .before .pre .fair .header>), screened c, c .before .before .before .before .before .before .pre)
 
 returns-3 : tie.Need-returns-3
 returns-3 c = says-no (λ o. omega arith)
@@ -60,6 +62,12 @@ returns-5 : tie.Need-returns-5
 unfolding headerWord
 returns-5 c = says-no (λ o. omega arith)
 
+rest-right-requires : tie.Need-rest-right-requires
+rest-right-requires c κs = (c .before .before .before .before .before .before .before .before .before .before .before .before .before .before .before .before .before .pre, omega arith)
+
+returns-6 : tie.Need-returns-6
+returns-6 c = says-no (λ o. c .before .rest-right .ensures .no (not-true _ (c .if6 .taken)) (record { size = o .size-at; zero = o .zero-at }))
+
 wide-requires-3 : tie.Need-wide-requires-3
 wide-requires-3 c κs = search needs
 
@@ -67,20 +75,23 @@ wide-requires-4 : tie.Need-wide-requires-4
 wide-requires-4 c κs = search needs
 
 room-of-requires : tie.Need-room-of-requires
-room-of-requires c κs = omega (arith, screened (c .before .before .before .before .before .before .before .before .before .before .before .before) .tiles≤)
-
-returns-6 : tie.Need-returns-6
-returns-6 c = says-no (λ o. omega (arith, needed (c .before)))
+room-of-requires c κs = (c .before .before .before .before .before .before .before .before .before .before .before .before .before .before .before .before .before .before .before .before .before .pre, omega (arith, screened (c .before .before .before .before .before .before .before .before .before .before .before .before .before .before .before) .tiles≤), omega arith)
 
 returns-7 : tie.Need-returns-7
+returns-7 c = says-no (λ o. omega (arith, needed (c .before), o .long))
+
+returns-8 : tie.Need-returns-8
 unfolding headerWord
-returns-7 c =
+returns-8 c =
+    let rest = c .before .before .before .before .before .rest-right .ensures .yes (not-false _ (c .before .before .before .before .if6 .left)) in
     says-yes
     record {
-      screen = screened (c .before .before .before .before .before .before .before .before .before .before .before .before .before .before);
+      screen = screened (c .before .before .before .before .before .before .before .before .before .before .before .before .before .before .before .before .before);
       blocks≤ = omega arith;
       table-at = omega arith;
       blocks-at = omega arith;
+      size-at = rest .size;
+      zero-at = rest .zero;
       long = omega (arith, needed (c .before));
     }
 
@@ -100,8 +111,10 @@ opened-spec =
     shared-slice-read-wide-2
     wide-requires-2
     returns-5
+    rest-right-requires
+    returns-6
     wide-requires-3
     wide-requires-4
     room-of-requires
-    returns-6
-    returns-7)
+    returns-7
+    returns-8)

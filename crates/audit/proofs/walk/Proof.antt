@@ -1,11 +1,12 @@
 -- `audit::walk` finds a chain right or broken: what is left of the walk is right exactly where the whole is (`Going`).
-use Prim.Native.Nat.{ℕ}
-use mathlib.Core.Path.{ap}
+use Prim.Native.Nat.{ℕ, suc, _+_, _*_, _-_, _≤_}
+use native.Mathlib.Nat.{mul-le-mul-left}
+use mathlib.Core.Path.{_≡_, ap}
 use native.Mathlib.Omega.{arith}
 use borrow.Author.Needs.{needs}
 use borrow.Author.Tests.{not-true, not-false}
 use lib.ListN.{getD}
-use Rattle.pool.specs.Words.{edition}
+use Rattle.pool.specs.Editions.{layoutFor}
 use Rattle.audit.specs.Chain.{Places, next}
 use Rattle.audit.specs.Walk.{blockWordFrom}
 use Rattle.audit.proofs.Follow.{Going, going-start, going-step, going-next, going-stops, going-ends}
@@ -13,12 +14,12 @@ use Rattle.audit.proofs.walk.Statement.{statement}
 use Rattle.audit.proofs.walk.Tie as tie
 
 abbrev Inv-loop : tie.InvT-loop
-Inv-loop pool marks₀ from blocks link₀ q₀ left₀ last₀ marks link q left last =
-    Going (next edition (blockWordFrom edition pool from)) blocks (λ b. Places edition (blockWordFrom edition pool from b)) (edition .ids)
+Inv-loop pool marks₀ layout from blocks link₀ q₀ left₀ last₀ marks link q left last =
+    Going (next (layoutFor layout) (blockWordFrom (layoutFor layout) pool from)) blocks (λ b. Places (layoutFor layout) (blockWordFrom (layoutFor layout) pool from b)) (layout .ids)
     marks₀ link₀ q₀ left₀ marks link q left last
 
 abbrev μ-loop : tie.MeasureT-loop
-μ-loop pool marks₀ from blocks link₀ q₀ left₀ last₀ marks link q left last = left
+μ-loop pool marks₀ layout from blocks link₀ q₀ left₀ last₀ marks link q left last = left
 
 loop-holds : tie.Need-loop-holds Inv-loop μ-loop
 loop-holds c = going-start _ _ _ _ _ _ _ _
@@ -53,11 +54,17 @@ returns-3 c = λ r apart. omega (arith, going-next _ _ _ _ (c .before .before .b
 share-requires : tie.Need-share-requires Inv-loop μ-loop
 share-requires c κs = search needs
 
-sub-t12 : tie.Need-sub-t12 Inv-loop μ-loop
-sub-t12 c = omega arith
+sub-t13 : tie.Need-sub-t13 Inv-loop μ-loop
+sub-t13 c = omega arith
 
 block-right-requires : tie.Need-block-right-requires Inv-loop μ-loop
-block-right-requires c κs = omega arith
+block-right-requires c κs =
+    let s = c .before .before .before .before .before .before .before .before .before .before in
+    let link = c .before .before .before .before .before .before .before .loop .link in
+    let e : link - 1 + 1 ≡ link = omega arith in
+    let h : link ≤ s .args .blocks = omega arith in
+    let w : suc (s .args .layout .ids) * link ≤ suc (s .args .layout .ids) * s .args .blocks = mul-le-mul-left (suc (s .args .layout .ids)) h in
+    rw e (omega (arith, w, s .pre .0))
 
 same-length-4 : tie.Need-same-length-4 Inv-loop μ-loop
 same-length-4 c = search needs
@@ -69,11 +76,17 @@ returns-4 c = λ r apart.
 slice-write-marks : tie.Need-slice-write-marks Inv-loop μ-loop
 slice-write-marks c = omega arith
 
-sub-t12-2 : tie.Need-sub-t12-2 Inv-loop μ-loop
-sub-t12-2 c = omega arith
+sub-t13-2 : tie.Need-sub-t13-2 Inv-loop μ-loop
+sub-t13-2 c = omega arith
 
 link-of-requires : tie.Need-link-of-requires Inv-loop μ-loop
-link-of-requires c κs = omega arith
+link-of-requires c κs =
+    let s = c .before .before .before .before .before .before .before .before .before .before .before .before in
+    let link = c .before .before .before .before .before .before .before .before .before .loop .link in
+    let e : link - 1 + 1 ≡ link = omega arith in
+    let h : link ≤ s .args .blocks = omega arith in
+    let w : suc (s .args .layout .ids) * link ≤ suc (s .args .layout .ids) * s .args .blocks = mul-le-mul-left (suc (s .args .layout .ids)) h in
+    rw e (omega (arith, w, s .pre .0))
 
 sub-q : tie.Need-sub-q Inv-loop μ-loop
 sub-q c = omega arith
@@ -121,12 +134,12 @@ walk-spec =
     same-length-3
     returns-3
     share-requires
-    sub-t12
+    sub-t13
     block-right-requires
     same-length-4
     returns-4
     slice-write-marks
-    sub-t12-2
+    sub-t13-2
     link-of-requires
     sub-q
     sub-left

@@ -1,5 +1,7 @@
 -- `calls::high_water` meets its contract: each test tells a row of the table, or that its cause does not apply.
-use mathlib.Core.Path.{refl}
+use mathlib.Core.Path.{refl, ap, _∙_}
+use denote.Ref.{now}
+use Rattle.pool.specs.Words.{Layout, tileWord}
 use Rattle.calls.specs.Tables.{damaged, no-tile, done}
 use Rattle.calls.proofs.Audits.{told-damaged, told-sound, past-tiles, a-tile, among}
 use borrow.Author.Needs.{needs}
@@ -30,7 +32,7 @@ mark-requires c κs = let k = told-sound (c .before .before .before .before .bef
 returns-3 : tie.Need-returns-3
 returns-3 c =
     let k = told-sound (c .before .before .before .before .before .before .audited .given .1) (c .before .before .before .before .before .before .before .before .audit .ensures) in
-    done (k .0) (a-tile k (c .before .before .if1 .left)) (λ i. record { number = 0; entries = c .mark .ensures i })
+    done (k .0) (a-tile k (c .before .before .if1 .left)) (λ i. record { number = 0; entries = (c .mark .ensures ∙ ap (λ (L : Layout). tileWord L (now (c .before .before .before .before .before .before .before .before .before .before .args .pool)) (c .before .before .before .before .before .before .before .before .before .before .args .tile .0) 3) (k .1 .layout)) i })
 
 pub high-water-spec : {M : Type 1} → statement M
 high-water-spec =

@@ -1,11 +1,13 @@
 -- `calls::place` meets its contract. The touched tiles are one list without a tile twice, so that `lists` counts and appends by it.
 use Prim.Native.Nat.{ℕ}
 use lib.ListN.{take}
-use Rattle.pool.specs.Words.{edition}
+use Rattle.pool.specs.Words.{Layout}
+use Rattle.pool.specs.Editions.{layoutFor}
 use Rattle.lists.specs.Appending.{need, appendAll}
-use mathlib.Core.Path.{_≡_, refl, sym, ap, _∙_}
+use mathlib.Core.Path.{_≡_, refl, sym, ap, ap₂, _∙_}
 use native.Mathlib.Omega.{arith}
 use Rattle.calls.specs.Tables.{no-room, done}
+use Rattle.calls.proofs.Audits.{carried-sound, carried-sized}
 use Rattle.calls.proofs.Placing.{screen-allowed, touched-here, as-many, all-among}
 use borrow.Author.Needs.{needs}
 use Rattle.calls.proofs.place.Statement.{statement}
@@ -32,7 +34,9 @@ need-requires c κs =
     all-among (s .pre .0) (s .pre .1) (c .before .before .before .before .before .touched-tiles .ensures) (omega arith) (c .before .before .before .wide .ensures) (c .wide2 .ensures)
 
 free-requires : tie.Need-free-requires
-free-requires c κs = search needs
+free-requires c κs =
+    let s = c .before .before .before .before .before .before .before .before .before .before in
+    (carried-sound (s .pre .0, s .pre .1), carried-sized (s .pre .0, s .pre .1))
 
 wide-requires-3 : tie.Need-wide-requires-3
 wide-requires-3 c κs = search needs
@@ -47,7 +51,7 @@ returns : tie.Need-returns
 returns c =
     let s = c .before .before .before .before .before .before .before .before .before .before .before .before .before .before in
     let w = c .before .before .before .before .before .before .before .before .before .before .before .touched-tiles in
-    let e = c .before .before .before .before .before .need .ensures ∙ ap (λ (k : ℕ). need edition (s .args .pool .now) (take k (w .last .1 .1 .0))) (c .before .before .before .before .before .before .wide2 .ensures) in
+    let e = c .before .before .before .before .before .need .ensures ∙ ap₂ (λ (L : Layout) (k : ℕ). need L (s .args .pool .now) (take k (w .last .1 .1 .0))) (s .pre .1 .layout) (c .before .before .before .before .before .before .wide2 .ensures) in
     no-room _ (touched-here (s .pre .0) (s .pre .1) (w .ensures)) (omega (arith, e, c .before .before .wide3 .ensures, c .before .before .before .free .ensures)) (c .refused-bin .ensures) refl
 
 slice-aggregate-append-all : tie.Need-slice-aggregate-append-all
@@ -63,7 +67,7 @@ append-all-requires c κs =
     let a = all-among (s .pre .0) (s .pre .1) (w .ensures) (omega arith) (c .before .before .before .before .before .before .before .before .before .before .before .wide .ensures) (c .wide4 .ensures) in
     let e =
     c .before .before .before .before .before .before .before .need .ensures
-    ∙ ap (λ (k : ℕ). need edition (s .args .pool .now) (take k (w .last .1 .1 .0))) (c .before .before .before .before .before .before .before .before .wide2 .ensures ∙ sym (c .wide4 .ensures)) in
+    ∙ ap (λ (k : ℕ). need (layoutFor (s .args .header .layout)) (s .args .pool .now) (take k (w .last .1 .1 .0))) (c .before .before .before .before .before .before .before .before .wide2 .ensures ∙ sym (c .wide4 .ensures)) in
     (a .0, record { among = a .1; in-range = s .pre .3; enough = omega (arith, e, c .before .before .before .before .wide3 .ensures, c .before .before .before .before .before .free .ensures) })
 
 narrow-requires : tie.Need-narrow-requires
@@ -78,12 +82,12 @@ returns-2 c =
     let p = s .args .pool .now in
     let w = c .before .before .before .before .before .before .before .before .before .before .before .before .before .before .before .before .before .touched-tiles in
     let new = w .last .1 .1 .0 in
-    let e = c .before .before .before .before .before .before .before .before .before .before .before .need .ensures ∙ ap (λ (k : ℕ). need edition p (take k new)) (c .before .before .before .before .before .before .before .before .before .before .before .before .wide2 .ensures) in
+    let e = c .before .before .before .before .before .before .before .before .before .before .before .need .ensures ∙ ap₂ (λ (L : Layout) (k : ℕ). need L p (take k new)) (s .pre .1 .layout) (c .before .before .before .before .before .before .before .before .before .before .before .before .wide2 .ensures) in
     let t = c .before .before .before .before .before .before .before .before .before .before .before .before .before .before .before .wide .ensures ∙ s .pre .1 .tiles in
     let k = c .before .before .before .before .wide4 .ensures in
     done (take (w .result) new) (touched-here (s .pre .0) (s .pre .1) (w .ensures)) (omega (arith, e, c .before .before .before .before .before .before .before .before .wide3 .ensures, c .before .before .before .before .before .before .before .before .before .free .ensures))
     (λ i. record { number = 0; tiles = sym (as-many (s .pre .0) (s .pre .1) (w .ensures) (omega arith)) i; blocks = (c .narrow .ensures ∙ e) i })
-    (c .before .before .before .append-all .ensures ∙ (λ i. appendAll edition (t i) p (take (k i) new) (s .args .id)))
+    (c .before .before .before .append-all .ensures ∙ (λ i. appendAll (s .pre .1 .layout i) (t i) p (take (k i) new) (s .args .id)))
 
 pub place-spec : {M : Type 1} → statement M
 place-spec =

@@ -1,9 +1,9 @@
 -- `calls::release` meets its contract: each test tells a row of the table, or that its cause does not apply.
 use Prim.Native.Nat.{ℕ}
 use Rattle.numbers.specs.Ceil.{ceil}
-use Rattle.pool.specs.Words.{edition}
+use Rattle.pool.specs.Words.{Layout, layoutOf, tileWord}
 use Rattle.lists.specs.Releasing.{release}
-use mathlib.Core.Path.{_≡_, refl, ap, _∙_}
+use mathlib.Core.Path.{_≡_, refl, ap, ap₂, _∙_}
 use Rattle.calls.specs.Tables.{damaged, no-tile, done}
 use Rattle.calls.proofs.Audits.{told-damaged, told-sound, past-tiles, a-tile, among, entries-are}
 use borrow.Author.Needs.{needs}
@@ -47,8 +47,8 @@ returns-3 c =
     let l = c .before .before .before .before .before .if1 .left in
     let r = c .before .before .release .ensures in
     done (k .0) (a-tile k l)
-    (λ i. record { number = 0; blocks = (r .1 ∙ ap (λ (q : ℕ). ceil q (edition .ids)) (entries-are k l)) i })
-    (r .0 ∙ ap (λ (n : ℕ). release edition n (s .pool .now) (s .tile .0)) (c .before .before .before .wide .ensures ∙ k .1 .tiles))
+    (λ i. record { number = 0; blocks = (r .1 ∙ ap (λ (L : Layout). ceil (tileWord L (s .pool .now) (s .tile .0) 0) (L .ids)) (k .1 .layout) ∙ ap (λ (q : ℕ). ceil q (layoutOf (s .pool .now) .ids)) (entries-are k l)) i })
+    (r .0 ∙ ap₂ (λ (L : Layout) (n : ℕ). release L n (s .pool .now) (s .tile .0)) (k .1 .layout) (c .before .before .before .wide .ensures ∙ k .1 .tiles))
 
 pub release-spec : {M : Type 1} → statement M
 release-spec =

@@ -4,29 +4,29 @@ use Prim.Native.Nat.{_≤_, _<_, _-_}
 use native.Mathlib.Omega.{arith}
 use borrow.Author.Needs.{needs}
 use lib.ListN.{length, take, drop}
-use Rattle.pool.specs.Words.{edition}
+use Rattle.pool.specs.Editions.{layoutFor}
 use Rattle.lists.specs.Appending.{appendAll}
 use Rattle.lists.proofs.AppendLoop.{Appending, rest-next, rest-none, among-first, appending-enough, appending-step, appending-end}
 use Rattle.lists.proofs.append_all.Statement.{statement}
 use Rattle.lists.proofs.append_all.Tie as tie
 
 abbrev Inv-loop : tie.InvT-loop
-Inv-loop pool₀ tiles named count id i₀ pool i =
-    (i ≤ count) × (length pool ≡ length pool₀) × Appending pool tiles (drop i (take count named)) id (appendAll edition tiles pool₀ (take count named) id)
+Inv-loop pool₀ layout tiles named count id i₀ pool i =
+    (i ≤ count) × (length pool ≡ length pool₀) × Appending (layoutFor layout) pool tiles (drop i (take count named)) id (appendAll (layoutFor layout) tiles pool₀ (take count named) id)
 
 abbrev μ-loop : tie.MeasureT-loop
-μ-loop pool₀ tiles named count id i₀ pool i = count - i
+μ-loop pool₀ layout tiles named count id i₀ pool i = count - i
 
 loop-holds : tie.Need-loop-holds Inv-loop μ-loop
 loop-holds c =
     let s = c .before .before in
     (search needs, refl, record { ready = s .pre .1; ends = refl })
 
-mul-t11 : tie.Need-mul-t11 Inv-loop μ-loop
-mul-t11 c = search needs
+mul-t12 : tie.Need-mul-t12 Inv-loop μ-loop
+mul-t12 c = search needs
 
-shared-slice-read-t13 : tie.Need-shared-slice-read-t13 Inv-loop μ-loop
-shared-slice-read-t13 c = search needs
+shared-slice-read-t14 : tie.Need-shared-slice-read-t14 Inv-loop μ-loop
+shared-slice-read-t14 c = search needs
 
 append-requires : tie.Need-append-requires Inv-loop μ-loop
 append-requires c κs =
@@ -67,8 +67,8 @@ append-all-spec =
     Inv-loop
     μ-loop
     loop-holds
-    mul-t11
-    shared-slice-read-t13
+    mul-t12
+    shared-slice-read-t14
     append-requires
     add-i
     loop-less

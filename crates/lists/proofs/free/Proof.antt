@@ -7,7 +7,7 @@ use Rattle.lists.proofs.free.Statement.{statement}
 use Rattle.lists.proofs.free.Tie as tie
 
 shared-slice-read-result : tie.Need-shared-slice-read-result
-shared-slice-read-result c = omega (arith, header-in (c .before .pre))
+shared-slice-read-result c = omega (arith, header-in (c .before .pre .0), c .before .pre .1)
 
 returns : tie.Need-returns
 unfolding headerWord

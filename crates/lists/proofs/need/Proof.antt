@@ -1,11 +1,12 @@
 -- `need`: the blocks counted, and those that the tiles which are left need, are all.
-use mathlib.Core.Path.{_≡_, _∙_}
+use mathlib.Core.Path.{_≡_, sym, ap, _∙_}
 use mathlib.Core.Logic.{⊎-elim}
-use Prim.Native.Nat.{_+_, _≤_, _<_, _-_}
+use Prim.Native.Nat.{ℕ, _+_, _%_, _≤_, _<_, _-_}
 use native.Mathlib.Omega.{arith}
 use borrow.Author.Needs.{needs}
 use lib.ListN.{getD, take, drop}
-use Rattle.pool.specs.Words.{edition}
+use Rattle.pool.specs.Words.{tileWord}
+use Rattle.pool.specs.Editions.{layoutFor}
 use Rattle.lists.specs.Appending.{need}
 use Rattle.lists.specs.Reach.{AllAmong}
 use Rattle.lists.proofs.Reaches.{tile-in}
@@ -14,21 +15,21 @@ use Rattle.lists.proofs.need.Statement.{statement}
 use Rattle.lists.proofs.need.Tie as tie
 
 abbrev Inv-loop : tie.InvT-loop
-Inv-loop pool tiles named count blocks₀ i₀ blocks i =
-    (i ≤ count) × (blocks ≤ i) × AllAmong pool tiles (drop i (take count named))
-    × (blocks + need edition pool (drop i (take count named)) ≡ need edition pool (take count named))
+Inv-loop pool layout tiles named count blocks₀ i₀ blocks i =
+    (i ≤ count) × (blocks ≤ i) × AllAmong (layoutFor layout) pool tiles (drop i (take count named))
+    × (blocks + need (layoutFor layout) pool (drop i (take count named)) ≡ need (layoutFor layout) pool (take count named))
 
 abbrev μ-loop : tie.MeasureT-loop
-μ-loop pool tiles named count blocks₀ i₀ blocks i = count - i
+μ-loop pool layout tiles named count blocks₀ i₀ blocks i = count - i
 
 loop-holds : tie.Need-loop-holds Inv-loop μ-loop
 loop-holds c = (search needs, search needs, c .before .before .pre .1, omega arith)
 
-mul-t9 : tie.Need-mul-t9 Inv-loop μ-loop
-mul-t9 c = search needs
+mul-t10 : tie.Need-mul-t10 Inv-loop μ-loop
+mul-t10 c = search needs
 
-shared-slice-read-t11 : tie.Need-shared-slice-read-t11 Inv-loop μ-loop
-shared-slice-read-t11 c = search needs
+shared-slice-read-t12 : tie.Need-shared-slice-read-t12 Inv-loop μ-loop
+shared-slice-read-t12 c = search needs
 
 tile-word-requires : tie.Need-tile-word-requires Inv-loop μ-loop
 tile-word-requires c κs =
@@ -42,6 +43,9 @@ tile-word-requires c κs =
 wide-requires : tie.Need-wide-requires Inv-loop μ-loop
 wide-requires c κs = search needs
 
+remainder-requires : tie.Need-remainder-requires Inv-loop μ-loop
+remainder-requires c κs = c .before .before .before .before .before .before .before .pre .1 .sized
+
 add-blocks : tie.Need-add-blocks Inv-loop μ-loop
 add-blocks c = search needs
 
@@ -53,19 +57,21 @@ loop-less c = search needs
 
 loop-again : tie.Need-loop-again Inv-loop μ-loop
 loop-again c =
-    let s = c .before .before .before .before .before .before .before .before in
-    let a = c .before .before .before .before .before in
-    let h : a .loop .i < s .args .count = omega (arith, c .before .before .before .before .loop-test .taken) in
+    let s = c .before .before .before .before .before .before .before .before .before in
+    let L = layoutFor (s .args .layout) in
+    let a = c .before .before .before .before .before .before in
+    let h : a .loop .i < s .args .count = omega (arith, c .before .before .before .before .before .loop-test .taken) in
     let next = rest-next (s .args .named .now) (s .args .count) (a .loop .i) (s .pre .0) h in
     let M = rw next at (a .loop .inv .2) in
     let n = rw next at (a .loop .inv .3) in
     let p = s .args .pool .now in
     let t = getD (s .args .named .now) (a .loop .i) 0 in
     let rest = drop (a .loop .i + 1) (take (s .args .count) (s .args .named .now)) in
-    let e = c .before .wide .ensures ∙ c .before .before .tile-word .ensures in
+    let e : c .before .remainder .result ≡ tileWord L p t 0 % L .ids
+    = c .before .remainder .ensures ∙ ap (λ (q : ℕ). q % L .ids) (c .before .before .wide .ensures ∙ c .before .before .before .tile-word .ensures) in
     ⊎-elim
-    (λ w. let m = need-more edition p t rest (omega (arith, w .0 .taken)) in (omega arith, omega (arith, w .1), among-rest M, omega (arith, w .1)))
-    (λ w. let m = need-same edition p t rest (λ z. w .0 .left (omega arith)) in (omega arith, omega (arith, w .1), among-rest M, omega (arith, w .1)))
+    (λ w. let m = need-more L p t rest (sym e ∙ w .0 .taken) in (omega arith, omega (arith, w .1), among-rest M, omega (arith, w .1)))
+    (λ w. let m = need-same L p t rest (λ z. w .0 .left (e ∙ z)) in (omega arith, omega (arith, w .1), among-rest M, omega (arith, w .1)))
     (c .if1 .came)
 
 returns : tie.Need-returns Inv-loop μ-loop
@@ -83,10 +89,11 @@ need-spec =
     Inv-loop
     μ-loop
     loop-holds
-    mul-t9
-    shared-slice-read-t11
+    mul-t10
+    shared-slice-read-t12
     tile-word-requires
     wide-requires
+    remainder-requires
     add-blocks
     add-i
     loop-less

@@ -5,16 +5,17 @@ use native.Mathlib.Numerals.{add-one}
 use native.Mathlib.Omega.{arith}
 use borrow.Author.Needs.{needs}
 use lib.ListN.{length, length-set}
-use Rattle.pool.specs.Words.{edition, blockSet}
+use Rattle.pool.specs.Words.{blockSet}
+use Rattle.pool.specs.Editions.{layoutFor}
 use Rattle.lists.specs.Releasing.{fill}
 use Rattle.lists.proofs.poison.Statement.{statement}
 use Rattle.lists.proofs.poison.Tie as tie
 
 abbrev Inv-loop : tie.InvT-loop
-Inv-loop pool₀ tiles block k₀ pool k = (k ≤ edition .ids) × (length pool ≡ length pool₀) × (pool ≡ fill edition tiles pool₀ (block .0) k)
+Inv-loop pool₀ layout tiles block k₀ pool k = (k ≤ layout .ids) × (length pool ≡ length pool₀) × (pool ≡ fill (layoutFor layout) tiles pool₀ (block .0) k)
 
 abbrev μ-loop : tie.MeasureT-loop
-μ-loop pool₀ tiles block k₀ pool k = edition .ids - k
+μ-loop pool₀ layout tiles block k₀ pool k = layout .ids - k
 
 loop-holds : tie.Need-loop-holds Inv-loop μ-loop
 unfolding fill
@@ -37,13 +38,13 @@ loop-less c = search needs
 
 loop-again : tie.Need-loop-again Inv-loop μ-loop
 unfolding fill blockSet
-loop-again c = (search needs, simp length-set (c .before .before .loop .inv .1), rw (add-one, c .block-index .ensures, c .before .before .loop .inv .2))
+loop-again c = (search needs, simp length-set (c .before .before .before .loop .inv .1), rw (add-one, c .block-index .ensures, c .before .before .before .loop .inv .2))
 
 same-length : tie.Need-same-length Inv-loop μ-loop
 same-length c = search needs
 
 returns : tie.Need-returns Inv-loop μ-loop
-returns c = let e : c .before .loop .k ≡ edition .ids = omega arith in rw e at (c .before .loop .inv .2)
+returns c = let e : c .before .before .loop .k ≡ c .before .before .before .before .args .layout .ids = omega arith in rw e at (c .before .before .loop .inv .2)
 
 pub poison-spec : {M : Type 1} → statement M
 poison-spec =

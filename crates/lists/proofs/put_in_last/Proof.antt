@@ -1,6 +1,11 @@
 -- `put_in_last`: its stores are those of `appendIn`.
 use mathlib.Core.Path.{ap, _∙_}
+use Prim.Native.Nat.{_-_}
+use native.Mathlib.Nat.{mod-lt}
 use lib.ListN.{length, length-set}
+use Rattle.pool.specs.Editions.{layoutFor}
+use Rattle.lists.specs.Reach.{BlockIn}
+use Rattle.lists.proofs.Reaches.{block-reach}
 use Rattle.pool.specs.Words.{tileSet, blockSet}
 use Rattle.lists.specs.Appending.{counted, appendIn}
 use borrow.Author.Needs.{needs}
@@ -19,14 +24,25 @@ sub-set-entries c = search needs
 wide-requires : tie.Need-wide-requires
 wide-requires c κs = search needs
 
+remainder-requires : tie.Need-remainder-requires
+remainder-requires c κs = c .before .before .before .before .before .before .pre .sized
+
+-- the place of the id lies in the pool
+place-in : (c : tie.After-remainder) → let a = c .before .before .before .before .before .before .before .args in
+    BlockIn (layoutFor (a .layout)) (a .tiles) (a .pool .now) (c .before .before .tile-word2 .result - 1) (c .remainder .result)
+place-in c =
+    let s = c .before .before .before .before .before .before .before in
+    rw (c .before .before .tile-word2 .ensures, c .remainder .ensures)
+    (block-reach _ _ (s .args .pool .now) _ _ (s .pre .block) (omega (arith, mod-lt (c .before .wide .result) (s .pre .sized .fair .ids>))))
+
 block-index-requires : tie.Need-block-index-requires
-block-index-requires c κs = search needs
+block-index-requires c κs = omega (arith, place-in c)
 
 mul-pool : tie.Need-mul-pool
-mul-pool c = search needs
+mul-pool c = omega (arith, place-in (c .before), c .block-index .ensures)
 
 slice-write-pool : tie.Need-slice-write-pool
-slice-write-pool c = search needs
+slice-write-pool c = omega (arith, place-in (c .before), c .block-index .ensures)
 
 add-set-entries : tie.Need-add-set-entries
 add-set-entries c = search needs
@@ -41,7 +57,7 @@ same-length c = ap length (c .before .before .set-entries .ensures) ∙ simp len
 returns : tie.Need-returns
 unfolding appendIn tileSet blockSet
 returns c =
-    rw (c .before .before .set-entries .ensures, c .before .before .before .before .block-index .ensures, c .before .before .before .before .before .wide .ensures, c .before .before .before .before .before .before .tile-word2 .ensures, c .before .before .before .before .before .before .before .before .tile-word .ensures)
+    rw (c .before .before .set-entries .ensures, c .before .before .before .before .block-index .ensures, c .before .before .before .before .before .remainder .ensures, c .before .before .before .before .before .before .wide .ensures, c .before .before .before .before .before .before .before .tile-word2 .ensures, c .before .before .before .before .before .before .before .before .before .tile-word .ensures)
 
 pub put-in-last-spec : {M : Type 1} → statement M
 put-in-last-spec =
@@ -51,6 +67,7 @@ put-in-last-spec =
     tile-word-requires-2
     sub-set-entries
     wide-requires
+    remainder-requires
     block-index-requires
     mul-pool
     slice-write-pool

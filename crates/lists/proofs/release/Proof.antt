@@ -6,23 +6,23 @@ use native.Mathlib.Omega.{arith}
 use borrow.Author.Needs.{needs}
 use lib.ListN.{length, length-set}
 use Rattle.numbers.specs.Ceil.{ceil}
-use Rattle.pool.specs.Words.{edition, tileWord}
+use Rattle.pool.specs.Words.{tileWord}
+use Rattle.pool.specs.Editions.{layoutFor}
 use Rattle.pool.specs.Sound.{blocksOf}
 use Rattle.lists.specs.Releasing.{giveChain}
 use Rattle.lists.proofs.Reaches.{tile-in}
 use Rattle.lists.proofs.ReleaseLoop.{Giving, giving-start, giving-block, giving-step, giving-end, release-stores}
-use Rattle.pool.specs.Words.{edition, tileWord}
 use Rattle.lists.proofs.release.Statement.{statement}
 use Rattle.lists.proofs.release.Tie as tie
 
 abbrev Inv-loop : tie.InvT-loop
-Inv-loop pool₀ tiles tile link₀ given₀ pool link given =
+Inv-loop pool₀ layout tiles tile link₀ given₀ pool link given =
     (length pool ≡ length pool₀)
-    × Giving tiles (blocksOf pool₀) pool link given (giveChain edition tiles (tileWord edition pool₀ (tile .0) 0) (tileWord edition pool₀ (tile .0) 1) pool₀)
-    (ceil (tileWord edition pool₀ (tile .0) 0) (edition .ids))
+    × Giving (layoutFor layout) tiles (blocksOf pool₀) pool link given (giveChain (layoutFor layout) tiles (tileWord (layoutFor layout) pool₀ (tile .0) 0) (tileWord (layoutFor layout) pool₀ (tile .0) 1) pool₀)
+    (ceil (tileWord (layoutFor layout) pool₀ (tile .0) 0) (layout .ids))
 
 abbrev μ-loop : tie.MeasureT-loop
-μ-loop pool₀ tiles tile link₀ given₀ pool link given = ceil (tileWord edition pool₀ (tile .0) 0) (edition .ids) - given
+μ-loop pool₀ layout tiles tile link₀ given₀ pool link given = ceil (tileWord (layoutFor layout) pool₀ (tile .0) 0) (layout .ids) - given
 
 tile-word-requires : tie.Need-tile-word-requires Inv-loop μ-loop
 tile-word-requires c κs = tile-in (c .before .before .pre) (omega arith)
@@ -30,8 +30,8 @@ tile-word-requires c κs = tile-in (c .before .before .pre) (omega arith)
 loop-holds : tie.Need-loop-holds Inv-loop μ-loop
 loop-holds c = (refl, rw (c .tile-word .ensures) (giving-start (c .before .before .before .pre)))
 
-sub-t10 : tie.Need-sub-t10 Inv-loop μ-loop
-sub-t10 c =
+sub-t11 : tie.Need-sub-t11 Inv-loop μ-loop
+sub-t11 c =
     let g = giving-block (c .before .loop .inv .1) (c .loop-test .taken) in
     omega arith
 
@@ -92,7 +92,7 @@ same-length c = simp length-set (c .before .before .before .before .loop .inv .0
 returns : tie.Need-returns Inv-loop μ-loop
 returns c =
     let g = giving-end (c .before .before .before .before .loop .inv .1) (c .before .before .before .loop-test .left) in
-    (release-stores _ _ _ _ _ _ _ (g .0) (c .before .before .tile-index .ensures) (c .before .tile-index2 .ensures) (c .tile-index3 .ensures), g .1)
+    (release-stores _ _ _ _ _ _ _ _ (g .0) (c .before .before .tile-index .ensures) (c .before .tile-index2 .ensures) (c .tile-index3 .ensures), g .1)
 
 pub release-spec : {M : Type 1} → statement M
 release-spec =
@@ -102,7 +102,7 @@ release-spec =
     μ-loop
     tile-word-requires
     loop-holds
-    sub-t10
+    sub-t11
     block-word-requires
     give-block-requires
     add-given

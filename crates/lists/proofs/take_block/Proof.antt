@@ -39,7 +39,7 @@ add-set-entries : tie.Need-add-set-entries
 add-set-entries c = search needs
 
 set-entries-requires : tie.Need-set-entries-requires
-set-entries-requires c κs = search needs
+set-entries-requires c κs = simp length-set (omega arith)
 
 same-length : tie.Need-same-length
 unfolding counted tileSet

@@ -1,4 +1,4 @@
--- `start_of`: the sum is that of the definition, at the first edition's numbers.
+-- `start_of`: the sum is that of the definition.
 use borrow.Author.Needs.{needs}
 use Rattle.pool.specs.Words.{start}
 use Rattle.pool.proofs.start_of.Statement.{statement}

@@ -1,10 +1,12 @@
--- `write_header`: the eight stores, one after the other, are the eight words of the definition.
+-- `write_header`: the eight stores, one after the other, and the rest are the words of the definition.
+use mathlib.Core.Path.{ap, _∙_}
 use native.Mathlib.Omega.{arith}
 use borrow.Author.Needs.{needs}
-use lib.ListN.{length-set}
+use lib.ListN.{length, length-set}
 use Rattle.pool.specs.Words.{start}
 use Rattle.pool.specs.Opening.{headerFor}
 use Rattle.pool.specs.Written.{written}
+use Rattle.pool.proofs.Written.{length-written}
 use Rattle.pool.proofs.write_header.Statement.{statement}
 use Rattle.pool.proofs.write_header.Tie as tie
 
@@ -42,13 +44,19 @@ narrow-requires-2 c κs = search needs
 slice-write-pool-8 : tie.Need-slice-write-pool-8
 slice-write-pool-8 c = simp length-set (omega arith)
 
+write-rest-requires : tie.Need-write-rest-requires
+write-rest-requires c κs = (c .before .before .before .before .before .pre .0 .1, simp length-set (omega arith))
+
 same-length : tie.Need-same-length
-same-length c = search needs
+same-length c = ap length (c .before .before .write-rest .ensures) ∙ length-written _ 8 _ ∙ simp length-set
 
 returns : tie.Need-returns
 unfolding written headerFor
 returns c =
-    rw (c .before .before .rising-link .ensures, c .before .narrow .ensures, c .narrow2 .ensures, c .before .before .before .before .pre .1 .1)
+    let r = c .before .before in
+    let n = r .before .before in
+    r .write-rest .ensures
+    ∙ rw (n .before .before .rising-link .ensures, n .before .narrow .ensures, n .narrow2 .ensures, n .before .before .before .before .pre .1 .1)
 
 pub write-header-spec : {M : Type 1} → statement M
 write-header-spec =
@@ -65,5 +73,6 @@ write-header-spec =
     slice-write-pool-7
     narrow-requires-2
     slice-write-pool-8
+    write-rest-requires
     same-length
     returns)

@@ -8,6 +8,7 @@ use Rattle.lists.specs.Reach.{BlockIn}
 use Rattle.lists.proofs.Reaches.{block-reach}
 use Rattle.pool.specs.Words.{tileSet, blockSet}
 use Rattle.lists.specs.Appending.{counted, appendIn}
+use native.Mathlib.Omega.{arith}
 use borrow.Author.Needs.{needs}
 use Rattle.lists.proofs.put_in_last.Statement.{statement}
 use Rattle.lists.proofs.put_in_last.Tie as tie

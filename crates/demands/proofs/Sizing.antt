@@ -152,5 +152,5 @@ free-throughout N n {p} S b (e ∷ h) q r l =
 pub marks-are-enough : MarksAreEnough
 marks-are-enough L d N n p₁ p₂ O h₂ q₂ r₂ none few =
     let P = fresh (accepted-opening (O .second)) in
-    let few′ : blocksByMarks (layoutOf p₂) (screenOf p₂) q₂ ≤ N = rw (P .layout, P .screen) few in
+    let few′ : blocksByMarks (layoutOf p₂) (screenOf p₂) q₂ ≤ N = subst (λ (x : Screen). blocksByMarks (layoutOf p₂) x q₂ ≤ N) (sym (P .screen)) (rw (P .layout) few) in
     fewer-are-enough L d N n p₁ p₂ O h₂ q₂ r₂ none (free-throughout N n (P .sound) (P .blocks) h₂ q₂ r₂ few′)

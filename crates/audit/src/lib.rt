@@ -21,11 +21,11 @@ ghost use Prim.Native.Nat.{ℕ, _+_, _*_, _<_, _≤_};
 ghost use lib.ListN.{length, getD};
 ghost use Rattle.numbers.specs.Says.{Says};
 ghost use Rattle.screen.specs.Screen.{Allowed};
-ghost use Rattle.pool.specs.Words.{layoutOf};
+ghost use Rattle.pool.specs.Words.{edition, layoutOf};
 ghost use Rattle.pool.specs.Editions.{layoutFor, Sized};
 ghost use Rattle.pool.specs.State.{times};
 ghost use Rattle.pool.specs.Sound.{screenOf, Opened};
-ghost use Rattle.audit.specs.Chain.{Places, timesInFirst};
+ghost use Rattle.audit.specs.Chain.{Place, Places, timesInFirst};
 ghost use Rattle.audit.specs.Walk.{blockStart, tileStart, blockWordFrom, WalkSays, Passes, chainOf, MarkRight, TileRight, TilesRight, ChainsRight};
 ghost use Rattle.audit.specs.Answer.{HeaderOf, RestRight, Finds, AuditFinds};
 
@@ -50,7 +50,17 @@ enum Walked {
     Ends(u32),
 }
 
-// Whether the id places of a block hold k ids, and then poison.
+// Whether a word may stand at place j of a block with k ids. The link, after the id places, may be any word.
+fn place_right(ids: usize, k: usize, j: usize, word: u32) -> bool
+    ensures { λ r. ⌜ Says r (Place ids (edition .limit) (edition .poison) k j word) ⌝ }
+{
+    let id = (k <= j) | (word < ID_LIMIT);
+    let none = (j < k) | (word == POISON);
+    (ids <= j) | (id & none)
+}
+
+// Whether the id places of a block hold k ids, and then poison. All words of the block are passed and no test ends that early, so that it is compiled to
+// vectors, whatever the size of a block.
 fn block_right(pool: &[u32], layout: Edition, from: usize, block: Block, k: usize) -> bool
     requires { ⌜ blockStart (layoutFor layout) from (block .0 + 1) ≤ length (now pool) ⌝ }
     ensures { λ r. ⌜ Says r (Places (layoutFor layout) (blockWordFrom (layoutFor layout) (now (pool .entry)) from (block .0)) k) ⌝ }
@@ -58,21 +68,14 @@ fn block_right(pool: &[u32], layout: Edition, from: usize, block: Block, k: usiz
     let b = wide(block.0);
     let ids = layout.ids;
     let at = from + ids * b + b;
+    let words = ids + 1;
+    let mut right = true;
     let mut j = 0;
-    while j < ids {
-        let word = pool[at + j];
-        if j < k {
-            if word >= ID_LIMIT {
-                return false;
-            }
-        } else {
-            if word != POISON {
-                return false;
-            }
-        }
+    while j < words {
+        right = right & place_right(ids, k, j, pool[at + j]);
         j += 1;
     }
-    true
+    right
 }
 
 // The link of a block.

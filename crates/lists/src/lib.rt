@@ -206,15 +206,27 @@ pub fn append_all(
     }
 }
 
-// Poison in every id place of a block.
-fn poison(pool: &mut [u32], layout: Edition, tiles: usize, block: Block)
-    requires { ⌜ BlockIn (layoutFor layout) tiles (now pool) (block .0) (layoutFor layout .ids) ⌝ }
-    ensures { λ r. ⌜ now (pool .exit) ≡ fill (layoutFor layout) tiles (now (pool .entry)) (block .0) (layoutFor layout .ids) ⌝ }
+// Poison in the first `count` id places of a block.
+fn poison_first(pool: &mut [u32], layout: Edition, tiles: usize, block: Block, count: usize)
+    requires { ⌜ BlockIn (layoutFor layout) tiles (now pool) (block .0) count ⌝ }
+    ensures { λ r. ⌜ now (pool .exit) ≡ fill (layoutFor layout) tiles (now (pool .entry)) (block .0) count ⌝ }
 {
     let mut k = 0;
-    while k < layout.ids {
+    while k < count {
         pool[block_index(layout, tiles, block, k)] = POISON;
         k += 1;
+    }
+}
+
+// Poison in all of them. Both counts are constants.
+fn poison(pool: &mut [u32], layout: Edition, tiles: usize, block: Block)
+    requires { ⌜ BlockIn (layoutFor layout) tiles (now pool) (block .0) (layoutFor layout .ids) × Sized (layoutFor layout) ⌝ }
+    ensures { λ r. ⌜ now (pool .exit) ≡ fill (layoutFor layout) tiles (now (pool .entry)) (block .0) (layoutFor layout .ids) ⌝ }
+{
+    if layout.ids == 31 {
+        poison_first(pool, layout, tiles, block, 31);
+    } else {
+        poison_first(pool, layout, tiles, block, 63);
     }
 }
 

@@ -74,6 +74,13 @@ known-sized one = record { fair = edition-fair; ids-are = inl refl; header-is = 
 known-sized two-32 = record { fair = second-fair 32 (omega arith); header-is = inr refl; ids-are = inl refl; header≤ = omega arith; ids≥ = omega arith; ids≤ = omega arith }
 known-sized two-64 = record { fair = second-fair 64 (omega arith); header-is = inr refl; ids-are = inr refl; header≤ = omega arith; ids≥ = omega arith; ids≤ = omega arith }
 
+-- of which a header that has not eight words has ten, and a block that has not 31 ids has 63
+pub ten : {L : Layout} → Sized L → L .header ≢ 8 → L .header ≡ 10
+ten S ne = ⊎-elim (λ e. absurd (ne e)) (λ e. e) (S .header-is)
+
+pub sixty-three : {L : Layout} → Sized L → L .ids ≢ 31 → L .ids ≡ 63
+sixty-three S ne = ⊎-elim (λ e. absurd (ne e)) (λ e. e) (S .ids-are)
+
 -- blocks of the second edition have 32 words or 64
 pub known-second : (words : ℕ) → Known (second words) → (words ≡ 32) ⊎ (words ≡ 64)
 known-second words k = ⊎-elim (λ (e : words - 1 ≡ 31). inl (omega arith)) (λ (e : words - 1 ≡ 63). inr (omega arith)) (known-sized k .ids-are)

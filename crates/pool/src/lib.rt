@@ -163,6 +163,19 @@ fn free_blocks(pool: &mut [u32], layout: Edition, from: usize, blocks: u32)
     }
 }
 
+// The same. The ids in a block are a constant either way.
+fn write_blocks(pool: &mut [u32], layout: Edition, from: usize, blocks: u32)
+    requires { ⌜ (Sized (layoutFor layout)) × (blocks ≤ 2048) × (from + suc (layout .ids) * blocks ≤ length (now pool)) ⌝ }
+    ensures { λ r. ⌜ now (pool .exit) ≡ written (now (pool .entry)) from (freeBlocks (layoutFor layout) 0 blocks) ⌝ }
+{
+    let header = layout.header;
+    if layout.ids == 31 {
+        free_blocks(pool, Edition { header, ids: 31 }, from, blocks);
+    } else {
+        free_blocks(pool, Edition { header, ids: 63 }, from, blocks);
+    }
+}
+
 // The words of an accepted opening, in a slice with room for them.
 fn write_opening(pool: &mut [u32], layout: Edition, screen: Screen, blocks: u32)
     requires { ⌜ (Allowed screen) × Known (layoutFor layout) ⌝ }
@@ -173,7 +186,7 @@ fn write_opening(pool: &mut [u32], layout: Edition, screen: Screen, blocks: u32)
     let from = start_of(layout, count);
     write_header(pool, layout, screen, blocks, from);
     fill(pool, layout.header, TILE_WORDS * count, 0);
-    free_blocks(pool, layout, from, blocks);
+    write_blocks(pool, layout, from, blocks);
 }
 
 // Opens a pool of a layout that there is.

@@ -1,63 +1,48 @@
--- `poison`: after k turns the first k places of the block hold poison.
-use mathlib.Core.Path.{_≡_, refl}
-use Prim.Native.Nat.{_≤_, _-_}
-use native.Mathlib.Numerals.{add-one}
+-- `poison`: the ids are 31, or they are 63.
+use mathlib.Core.Path.{ap, sym, _∙_}
+use mathlib.Core.List.{List}
+use Prim.Native.Nat.{ℕ}
 use native.Mathlib.Omega.{arith}
 use borrow.Author.Needs.{needs}
-use lib.ListN.{length, length-set}
-use Rattle.pool.specs.Words.{blockSet}
+use denote.Ref.{now}
 use Rattle.pool.specs.Editions.{layoutFor}
+use Rattle.pool.proofs.Editions.{sixty-three}
 use Rattle.lists.specs.Releasing.{fill}
 use Rattle.lists.proofs.poison.Statement.{statement}
 use Rattle.lists.proofs.poison.Tie as tie
 
-abbrev Inv-loop : tie.InvT-loop
-Inv-loop pool₀ layout tiles block k₀ pool k = (k ≤ layout .ids) × (length pool ≡ length pool₀) × (pool ≡ fill (layoutFor layout) tiles pool₀ (block .0) k)
+-- poison in the first n places
+abbrev poisoned : (s : tie.Start) (n : ℕ) → List ℕ
+poisoned s n = fill (layoutFor (s .args .layout)) (s .args .tiles) (now (s .args .pool)) (s .args .block .0) n
 
-abbrev μ-loop : tie.MeasureT-loop
-μ-loop pool₀ layout tiles block k₀ pool k = layout .ids - k
+poison-first-requires : tie.Need-poison-first-requires
+poison-first-requires c κs = search needs
 
-loop-holds : tie.Need-loop-holds Inv-loop μ-loop
-unfolding fill
-loop-holds c = (search needs, refl, refl)
+poison-first-requires-2 : tie.Need-poison-first-requires-2
+poison-first-requires-2 c κs = let s = c .before .before .before .before in omega (arith, s .pre .0, sixty-three (s .pre .1) (c .before .if1 .left))
 
-block-index-requires : tie.Need-block-index-requires Inv-loop μ-loop
-block-index-requires c κs = search needs
-
-mul-pool : tie.Need-mul-pool Inv-loop μ-loop
-mul-pool c = search needs
-
-slice-write-pool : tie.Need-slice-write-pool Inv-loop μ-loop
-slice-write-pool c = search needs
-
-add-k : tie.Need-add-k Inv-loop μ-loop
-add-k c = search needs
-
-loop-less : tie.Need-loop-less Inv-loop μ-loop
-loop-less c = search needs
-
-loop-again : tie.Need-loop-again Inv-loop μ-loop
-unfolding fill blockSet
-loop-again c = (search needs, simp length-set (c .before .before .before .loop .inv .1), rw (add-one, c .block-index .ensures, c .before .before .before .loop .inv .2))
-
-same-length : tie.Need-same-length Inv-loop μ-loop
+same-length : tie.Need-same-length
 same-length c = search needs
 
-returns : tie.Need-returns Inv-loop μ-loop
-returns c = let e : c .before .before .loop .k ≡ c .before .before .before .before .args .layout .ids = omega arith in rw e at (c .before .before .loop .inv .2)
+returns : tie.Need-returns
+returns c = let t = c .before .before .before .before in c .before .before .poison-first .ensures ∙ ap (poisoned (t .before .before .before)) (sym (t .if1 .taken))
+
+same-length-2 : tie.Need-same-length-2
+same-length-2 c = search needs
+
+returns-2 : tie.Need-returns-2
+returns-2 c =
+    let t = c .before .before .before .before in
+    let s = t .before .before .before in
+    c .before .before .poison-first2 .ensures ∙ ap (poisoned s) (sym (sixty-three (s .pre .1) (t .if1 .left)))
 
 pub poison-spec : {M : Type 1} → statement M
 poison-spec =
     tie.close
     (tie.spec
-    Inv-loop
-    μ-loop
-    loop-holds
-    block-index-requires
-    mul-pool
-    slice-write-pool
-    add-k
-    loop-less
-    loop-again
+    poison-first-requires
+    poison-first-requires-2
     same-length
-    returns)
+    returns
+    same-length-2
+    returns-2)

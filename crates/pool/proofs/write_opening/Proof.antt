@@ -36,9 +36,11 @@ fill-requires : tie.Need-fill-requires
 unfolding room start
 fill-requires c κs = search needs
 
-free-blocks-requires : tie.Need-free-blocks-requires
+write-blocks-requires : tie.Need-write-blocks-requires
 unfolding room start
-free-blocks-requires c κs = search needs
+write-blocks-requires c κs =
+    let s = c .before .before .before .before .before .before .before .before .before .before .before .before .before in
+    (known-sized (s .pre .0 .1), s .pre .1 .0, search needs)
 
 same-length : tie.Need-same-length
 same-length c = search needs
@@ -51,7 +53,7 @@ returns c =
     let count = h .before .before .before .wide .ensures ∙ h .before .before .before .before .tiles-of .ensures in
     opening-steps L _ _ _ (header-fits (s .pre .0 .1) _ _) _ _ _ _ _ (s .pre .1 .1) count
     (h .before .before .start-of .ensures ∙ ap (start L) count) (h .write-header .ensures) (c .before .before .before .before .before .before .fill .ensures)
-    (c .before .before .free-blocks .ensures)
+    (c .before .before .write-blocks .ensures)
 
 pub write-opening-spec : {M : Type 1} → statement M
 write-opening-spec =
@@ -63,6 +65,6 @@ write-opening-spec =
     write-header-requires
     mul-fill
     fill-requires
-    free-blocks-requires
+    write-blocks-requires
     same-length
     returns)

@@ -1,6 +1,5 @@
 -- `write_rest`: a header of eight words has no more; one of ten has the words of a block, and 0.
 use mathlib.Core.Path.{_≡_, sym, ap, _∙_}
-use mathlib.Core.Logic.{_≢_, ⊎-elim}
 use Prim.Native.Nat.{ℕ, suc, _-_}
 use mathlib.Core.List.{[], _∷_}
 use lib.ListN.{set, take, length-set}
@@ -12,14 +11,11 @@ use Rattle.pool.specs.Words.{Layout}
 use Rattle.pool.specs.Editions.{layoutFor}
 use Rattle.pool.specs.Opening.{headerRest}
 use Rattle.pool.specs.Written.{written}
+use Rattle.pool.proofs.Editions.{ten}
 use Rattle.pool.proofs.write_rest.Statement.{statement}
 use Rattle.pool.proofs.write_rest.Tie as tie
 
--- a header that has not eight words has ten
-ten : (s : tie.Start) → s .args .layout .header ≢ 8 → s .args .layout .header ≡ 10
-ten s ne = ⊎-elim (λ z. absurd (ne z)) (λ z. z) (s .pre .0 .header-is)
-
--- what such headers have after eight words
+-- what headers of eight and of ten words have after eight
 none : (L : Layout) → L .header ≡ 8 → headerRest L ≡ []
 none L e = ap (λ (n : ℕ). take (n - 8) (suc (L .ids) ∷ 0 ∷ [])) e
 
@@ -37,10 +33,10 @@ narrow-requires : tie.Need-narrow-requires
 narrow-requires c κs = search needs
 
 slice-write-pool : tie.Need-slice-write-pool
-slice-write-pool c = omega (arith, ten (c .before .before .before .before .before) (c .before .before .if1 .left))
+slice-write-pool c = omega (arith, ten (c .before .before .before .before .before .pre .0) (c .before .before .if1 .left))
 
 slice-write-pool-2 : tie.Need-slice-write-pool-2
-slice-write-pool-2 c = simp length-set (omega (arith, ten (c .before .before .before .before .before) (c .before .before .if1 .left)))
+slice-write-pool-2 c = simp length-set (omega (arith, ten (c .before .before .before .before .before .pre .0) (c .before .before .if1 .left)))
 
 same-length : tie.Need-same-length
 same-length c = search needs
@@ -51,7 +47,7 @@ returns-2 c =
     let s = c .before .before .before .before .before in
     let p = now (s .args .pool) in
     let size = c .narrow .ensures ∙ add-one (s .args .layout .ids) in
-    (λ i. set (set p 8 (size i)) 9 0) ∙ sym (ap (written p 8) (two (layoutFor (s .args .layout)) (ten s (c .before .before .if1 .left))))
+    (λ i. set (set p 8 (size i)) 9 0) ∙ sym (ap (written p 8) (two (layoutFor (s .args .layout)) (ten (s .pre .0) (c .before .before .if1 .left))))
 
 pub write-rest-spec : {M : Type 1} → statement M
 write-rest-spec =

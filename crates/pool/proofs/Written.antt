@@ -5,7 +5,7 @@ use Prim.Native.Nat.{ℕ, zero, suc, _+_, _*_, _-_, _≤_, _<_}
 use native.Mathlib.Numerals.{add-one}
 use native.Mathlib.Omega.{arith}
 use lib.ListN.{length, set, take, drop, replicate, length-append, length-set, length-replicate}
-use lib.Seq.{sets, sets-eq, length-sets}
+use lib.Seq.{set-comm, sets, sets-eq, length-sets}
 use Rattle.pool.specs.Words.{Layout}
 use Rattle.pool.specs.State.{linkTo}
 use Rattle.pool.specs.Opening.{rising, freeBlock, freeBlocks}
@@ -35,6 +35,13 @@ pub written-is : (p : List ℕ) (from : ℕ) (words : List ℕ) → from + lengt
     → written p from words ≡ take from p ++ words ++ drop (from + length words) p
 unfolding written
 written-is p from words h = sets-eq words p from h
+
+-- a word behind them may be set before
+pub written-set : (p : List ℕ) (from i v : ℕ) (words : List ℕ) → from + length words ≤ i → written (set p i v) from words ≡ set (written p from words) i v
+unfolding written
+written-set p from i v [] h = refl
+written-set p from i v (x ∷ words) h =
+    ap (λ (q : List ℕ). written q (suc from) words) (set-comm p i from v x (omega arith)) ∙ written-set (set p from x) (suc from) i v words (omega arith)
 
 -- ---- one word v in n places
 
@@ -79,15 +86,16 @@ module _ (L : Layout) where
   length-freeBlocks b (suc n) =
       length-append (freeBlock L b n) (freeBlocks L (suc b) n) ∙ rw (length-freeBlock b n, length-freeBlocks (suc b) n) (omega arith)
 
-  -- poison in the places of a block, and then its link
-  pub free-block : (p q : List ℕ) (at b n link : ℕ) → q ≡ written p at (replicate (L .ids) (L .poison)) → link ≡ linkTo (rising (suc b) n)
-      → set q (at + L .ids) link ≡ written p at (freeBlock L b n)
+  -- the link of a block, and then poison in its places
+  pub free-block : (p q : List ℕ) (at b n link : ℕ) → link ≡ linkTo (rising (suc b) n) → q ≡ written (set p (at + L .ids) link) at (replicate (L .ids) (L .poison))
+      → q ≡ written p at (freeBlock L b n)
   unfolding freeBlock
-  free-block p q at b n link e f =
+  free-block p q at b n link f e =
       let poisons : List ℕ = replicate (L .ids) (L .poison) in
       let z : at + length poisons ≡ at + L .ids = omega (arith, length-replicate (L .ids) (L .poison)) in
       let w : written p at (poisons ++ (link ∷ [])) ≡ written (written p at poisons) (at + L .ids) (link ∷ []) = rw z at (written-append p at poisons (link ∷ [])) in
-      rw (e, ← f) (sym (w ∙ written-next (written p at poisons) (at + L .ids) link [] ∙ written-none _ _))
+      rw (← f) (e ∙ written-set p at (at + L .ids) link poisons (omega arith)
+      ∙ sym (w ∙ written-next (written p at poisons) (at + L .ids) link [] ∙ written-none _ _))
 
 -- p is p₀ with b of them written: writing the rest from there on gives what all of them give
 pub record Freeing (L : Layout) (p₀ : List ℕ) (from n : ℕ) (p : List ℕ) (b : ℕ) : Type 0 where

@@ -145,8 +145,8 @@ fn free_block(pool: &mut [u32], layout: Edition, at: usize, block: Block, follow
     requires { ⌜ (at + suc (layout .ids) ≤ length (now pool)) × (block .0 < 2048) ⌝ }
     ensures { λ r. ⌜ now (pool .exit) ≡ written (now (pool .entry)) at (freeBlock (layoutFor layout) (block .0) following) ⌝ }
 {
-    fill(pool, at, layout.ids, POISON);
     pool[at + layout.ids] = rising_link(Block(block.0 + 1), following);
+    fill(pool, at, layout.ids, POISON);
 }
 
 // All blocks free, in rising order.

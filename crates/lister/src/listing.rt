@@ -105,18 +105,11 @@ fn put_tiles(pool: &[u32], header: Header, ids: &mut [u32], out: &mut [u8], at: 
     requires { ⌜ at + length (tileLines (now pool) (tilesOf (now pool))) ≤ length (now out) ⌝ }
     ensures { λ r. ⌜ Puts (now (out .entry)) at (tileLines (now (pool .entry)) (tilesOf (now (pool .entry)))) (now (out .exit)) r ⌝ }
 {
+    let tiles = header.tiles;
     let mut next = at;
     let mut t = 0;
-    while t < header.tiles {
-        next = put_tile(
-            pool,
-            header.layout,
-            header.start,
-            Tile(t),
-            ids,
-            out,
-            next,
-        );
+    while t < tiles {
+        next = put_tile(pool, header.layout, header.start, Tile(t), ids, out, next);
         t += 1;
     }
     next

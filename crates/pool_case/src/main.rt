@@ -1,6 +1,7 @@
 // Document 01's pool case: a screen of 64 by 32, s = 4, two blocks, in a slice of 108 words that held something else. Writes what each opening
 // answers, and every word that it leaves.
 use libc::STDOUT_FILENO;
+use pool::Edition;
 use screen::Screen;
 
 fn text(bytes: &[u8]) {
@@ -44,6 +45,12 @@ fn opening(name: &[u8], words: &mut [u32], screen: Screen, blocks: u32) {
     number(name, pool::open(words, screen, blocks) as u64);
 }
 
+// The room of the case: eight tiles and two blocks.
+fn needed() -> usize {
+    let layout = Edition { header: 8, ids: 31 };
+    pool::room_of(layout, 8, 2)
+}
+
 fn main() {
     let mut long = [7u32; 108];
     let mut short = [7u32; 103];
@@ -63,7 +70,7 @@ fn main() {
     opening(b"too many blocks:", words, screen, 2049);
     opening(b"one word too short:", &mut short, screen, 2);
     row(b"as before:", words, 0, 8);
-    number(b"words needed:", pool::room_of(8, 2) as u64);
+    number(b"words needed:", needed() as u64);
     opening(b"opened:", words, screen, 2);
     row(b"header:", words, 0, 8);
     row(b"tiles:", words, 8, 40);

@@ -7,7 +7,7 @@ use lib.ListN.{length, getD, length-append}
 use Rattle.screen.specs.Screen.{Allowed}
 use Rattle.pool.specs.Words.{start, room, headerWord}
 use Rattle.pool.specs.Sound.{blocksOf}
-use Rattle.lister.specs.Listing.{screenLine, tileLines, listing}
+use Rattle.lister.specs.Listing.{screenLine, listing}
 use Rattle.lister.proofs.Writing.{puts-then}
 use borrow.Author.Needs.{needs}
 use Rattle.lister.proofs.listing.put_listing.Statement.{statement}
@@ -38,14 +38,9 @@ put-tiles-requires : tie.Need-put-tiles-requires
 unfolding listing
 put-tiles-requires c κs =
     let at = c .before .before .before .before in
-    let s = at .before .before .before .before .before .before in
-    let h = s .pre .1 .0 in
-    let lines = ap (λ n. length (tileLines (now (s .args .pool)) n)) (h .tiles) in (
+    let s = at .before .before .before .before .before .before in (
       s .pre .0,
-      (
-        (h .start, h .tiles),
-        (s .pre .1 .1 .0, omega (arith, ap length (line s), lines, simp length-append at (s .pre .1 .1 .1), at .put-screen .ensures .next-is)),
-      ),
+      (s .pre .1 .0, (s .pre .1 .1 .0, omega (arith, ap length (line s), simp length-append at (s .pre .1 .1 .1), at .put-screen .ensures .next-is))),
     )
 
 same-length : tie.Need-same-length
@@ -60,7 +55,7 @@ returns c =
     let tiles = c .before .before .before .before in
     let screen = tiles .before .before .before .before .before in
     let s = screen .before .before .before .before .before .before in
-    puts-then (rw (line s) at (screen .put-screen .ensures)) (rw (s .pre .1 .0 .tiles) at (tiles .put-tiles .ensures))
+    puts-then (rw (line s) at (screen .put-screen .ensures)) (tiles .put-tiles .ensures)
 
 pub put-listing-spec : {M : Type 1} → statement M
 put-listing-spec =

@@ -3,7 +3,7 @@ use mathlib.Core.Path.{_≡_, sym, ap, _∙_}
 use denote.Ref.{now}
 use lib.ListN.{length, take}
 use native.Mathlib.Omega.{arith}
-use Rattle.pool.specs.Words.{edition}
+use Rattle.pool.specs.Editions.{layoutFor}
 use Rattle.pool.specs.Sound.{tilesOf}
 use Rattle.pool.specs.Lists.{listOf}
 use Rattle.lister.specs.Listing.{lineOf, tileLine}
@@ -15,8 +15,8 @@ use Rattle.lister.proofs.listing.put_tile.Tie as tie
 
 -- the line of a tile, where ids were copied
 line : (c : tie.Else1) → let a = c .before .before .before .before .before .before .before .before .args in
-    tileLine (a .tile .0) (listOf edition (tilesOf (now (a .pool))) (now (a .pool)) (a .tile .0))
-    ≡ lineOf (a .tile .0) (take (c .before .before .before .tile-ids .result) (c .before .before .before .tile-ids .last .1 .1 .1 .0))
+    tileLine (a .tile .0) (listOf (layoutFor (a .layout)) (tilesOf (now (a .pool))) (now (a .pool)) (a .tile .0))
+    ≡ lineOf (a .tile .0) (take (c .before .before .before .tile-ids .result) (c .before .before .before .tile-ids .last .1 .1 .1 .1 .0))
 line c =
     let t = c .before .before .before .before .before .before .before .before .args .tile .0 in
     let e = c .before .before .before .tile-ids .ensures in

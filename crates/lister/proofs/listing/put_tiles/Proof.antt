@@ -1,12 +1,18 @@
 -- `put_tiles`: after t tiles, their lines have been put.
-use mathlib.Core.Path.{_≡_, refl}
-use Prim.Native.Nat.{_-_, _<_, _≤_}
+use mathlib.Core.Path.{_≡_, refl, sym, ap, subst, _∙_}
+use mathlib.Core.List.{List}
+use Prim.Native.Nat.{ℕ, _-_, _<_, _≤_}
 use native.Mathlib.Omega.{arith}
 use denote.Ref.{now}
 use lib.ListN.{length}
-use Rattle.pool.specs.Sound.{tilesOf}
+use Rattle.pool.specs.Words.{Layout, layoutOf, start}
+use Rattle.pool.specs.Editions.{layoutFor, Sized}
+use Rattle.pool.specs.Sound.{Sound, tilesOf}
+use Rattle.pool.specs.Lists.{listOf}
+use Rattle.audit.specs.declared.Header.{Header}
+use Rattle.audit.specs.Answer.{HeaderOf}
 use Rattle.lister.specs.Text.{Puts}
-use Rattle.lister.specs.Listing.{tileLines}
+use Rattle.lister.specs.Listing.{tileLine, tileLines}
 use Rattle.lister.proofs.Writing.{puts-none, puts-then, puts-long}
 use Rattle.lister.proofs.Lines.{tileLines-next, tileLines-grow, list≤}
 use borrow.Author.Needs.{needs}
@@ -14,10 +20,15 @@ use Rattle.lister.proofs.listing.put_tiles.Statement.{statement}
 use Rattle.lister.proofs.listing.put_tiles.Tie as tie
 
 abbrev Inv-loop : tie.InvT-loop
-Inv-loop pool from tiles ids₀ out₀ at next₀ t₀ ids out next t = Puts out₀ at (tileLines pool t) out next × (t ≤ tiles) × (length ids ≡ length ids₀)
+Inv-loop pool header ids₀ out₀ at tiles next₀ t₀ ids out next t = Puts out₀ at (tileLines pool t) out next × (t ≤ tiles) × (length ids ≡ length ids₀)
 
 abbrev μ-loop : tie.MeasureT-loop
-μ-loop pool from tiles ids₀ out₀ at next₀ t₀ ids out next t = tiles - t
+μ-loop pool header ids₀ out₀ at tiles next₀ t₀ ids out next t = tiles - t
+
+-- a list is that of the layout that the header carries
+list-is : (p : List ℕ) (header : Header) → HeaderOf (layoutOf p) p header → (t : ℕ)
+    → listOf (layoutFor (header .layout)) (tilesOf p) p t ≡ listOf (layoutOf p) (tilesOf p) p t
+list-is p header h t = ap (λ (L : Layout). listOf L (tilesOf p) p t) (h .layout)
 
 loop-holds : tie.Need-loop-holds Inv-loop μ-loop
 loop-holds c = (puts-none _ _, omega arith, refl)
@@ -26,13 +37,18 @@ put-tile-requires : tie.Need-put-tile-requires Inv-loop μ-loop
 put-tile-requires c κs =
     let s = c .before .before .before .before .before .before .before in
     let p = now (s .args .pool) in
+    let h = s .pre .1 .0 in
     let l = c .before .before .before .loop in
-    let lt : l .t < tilesOf p = omega (arith, s .pre .1 .0 .1) in
-    let grow = tileLines-grow p (l .t) (s .args .tiles) (omega arith) in (
-      s .pre .0,
+    let lt : l .t < tilesOf p = omega (arith, h .tiles) in
+    let grow = tileLines-grow p (l .t) (tilesOf p) lt in
+    let list = list-is p (s .args .header) h (l .t) in (
+      (subst (λ (L : Layout). Sound L p) (sym (h .layout)) (s .pre .0), subst Sized (sym (h .layout)) (h .sized)),
       (
-        (s .pre .1 .0 .0, lt),
-        (omega (arith, list≤ p (s .pre .0) (l .t) lt, s .pre .1 .1 .0), omega (arith, grow, l .inv .0 .next-is, puts-long (l .inv .0), s .pre .1 .1 .1)),
+        (h .start ∙ ap (λ (L : Layout). start L (tilesOf p)) (sym (h .layout)), lt),
+        (
+          omega (arith, ap length list, list≤ p (s .pre .0) (l .t) lt, s .pre .1 .1 .0),
+          omega (arith, ap (λ (x : List ℕ). length (tileLine (l .t) x)) list, grow, l .inv .0 .next-is, puts-long (l .inv .0), s .pre .1 .1 .1),
+        ),
       ),
     )
 
@@ -46,7 +62,8 @@ loop-again : tie.Need-loop-again Inv-loop μ-loop
 loop-again c =
     let l = c .before .before .before .before .before .before .before .before .loop in
     let s = c .before .before .before .before .before .before .before .before .before .before .before .before in
-    let put = puts-then (l .inv .0) (c .before .before .before .before .put-tile .ensures) in
+    let list = list-is (now (s .args .pool)) (s .args .header) (s .pre .1 .0) (l .t) in
+    let put = puts-then (l .inv .0) (rw list at (c .before .before .before .before .put-tile .ensures)) in
     (rw (tileLines-next (now (s .args .pool)) (l .t)) put, omega arith, omega arith)
 
 same-length : tie.Need-same-length Inv-loop μ-loop
@@ -57,7 +74,8 @@ same-length-2 c = puts-long (c .before .loop .inv .0)
 
 returns : tie.Need-returns Inv-loop μ-loop
 returns c =
-    let e : c .before .loop .t ≡ c .before .before .before .before .before .args .tiles = omega arith in
+    let s = c .before .before .before .before .before in
+    let e : c .before .loop .t ≡ tilesOf (now (s .args .pool)) = omega (arith, s .pre .1 .0 .tiles) in
     rw e at (c .before .loop .inv .0)
 
 pub put-tiles-spec : {M : Type 1} → statement M

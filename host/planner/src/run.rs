@@ -29,7 +29,7 @@ impl Made {
     }
 }
 
-/// The tiles of a pool that had an entry, where a block holds so many.
+/// The tiles that had an entry, of a pool whose blocks hold so many each.
 fn tiles(pool: &Pool, ids_of_block: u32) -> Vec<Tile> {
     // the first word of a tile, as the C header has it
     let entries = |tile: u32| pool.words()[(pool.words()[6] + 4 * tile) as usize];

@@ -1,5 +1,5 @@
-//! How many blocks a list of calls needs, in each layout. As many as its marks ask for are enough; as many as were in use at once are just
-//! enough.
+//! How many blocks a list of calls needs, in each layout. As many as its marks ask for are enough; as many as were in use at
+//! once are just enough.
 
 use std::collections::BTreeMap;
 
@@ -129,11 +129,12 @@ fn as_many_blocks_as_the_marks_ask_for_are_enough() {
         *loose += u32::from(needs.by_marks > needs.at_once);
         *most = needs.by_marks.max(*most);
     });
-    for (layout, [tight, loose, most]) in seen {
-        println!("{layout:?}: {tight} lists need as many blocks as the marks ask for, {loose} fewer; these ask for {most} at most");
+    println!("lists that need what the marks ask for, lists that need less, and the most blocks asked for: {seen:?}");
+    assert_eq!(seen.len(), LAYOUTS.len());
+    for [tight, loose, most] in seen.into_values() {
         assert!(tight > 60, "a block less than the marks ask for should often be refused");
         assert!(loose > 60, "lists that give blocks back should be common");
-        assert!(most > 200, "some lists should fill many tiles");
+        assert!(most > 100, "some lists should fill many tiles");
     }
 }
 

@@ -179,8 +179,8 @@ impl Sequence {
         Slot::over((0..words as u32).map(|at| at.wrapping_mul(0x9E37_79B9)).collect(), self.blocks[pool])
     }
 
-    /// Demand 3 of two pools that are opened, in the same layout: all lists and marks agree, the second has more free blocks by the difference
-    /// at the opening, and the id places of its extra blocks hold poison.
+    /// Demand 3 of two pools that are opened: both have one layout, all lists and marks agree, the second has more free blocks
+    /// by the difference at the opening, and the id places of its extra blocks hold poison.
     fn agree(&self, first: &Slot, second: &Slot) -> Result<(), String> {
         let (Some(one), Some(two)) = (&first.state, &second.state) else {
             return Ok(());

@@ -19,9 +19,9 @@
  *   of which each only audits, reads or asks for a mark may. Calls that take no pool may always run.
  *
  * STACK, in bytes, as measured, on x86-64 in an emulator; of bin's, 16,384 list the touched tiles
- *               bin      audit   read    high_water   release   corner   box   open   unit
- *     x86-64    17,296   2,256   2,288   2,288        2,288     352      192   64     16
- *     Arm       17,216   2,256   2,304   2,288        2,288     240      160   64     32
+ *               bin      audit   read    high_water   release   corner   box   open, open_two   unit
+ *     x86-64    17,296   2,256   2,288   2,288        2,288     352      192   64               16
+ *     Arm       17,232   2,288   2,320   2,304        2,320     240      160   144              32
  *
  * SCREEN AND UNITS
  *   A screen has a width and a height of 1 to 4,096 pixels. A tile is a square of 2^s by 2^s pixels, s from 3 to 6, cut

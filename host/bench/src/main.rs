@@ -1,6 +1,6 @@
-//! Nanoseconds per call of the archive beside a plain Rust binner, in five runs, on pools of edition one and of edition two
-//! with 64 words to a block; of another version's archive, where one is given, the unit too. Screen 800 by 480, s = 4, 2,048
-//! blocks.
+//! Nanoseconds per call of the archive beside a plain Rust binner, in five runs; of another version's archive, where one is
+//! given, the unit too. Screen 800 by 480, s = 4, 2,048 blocks; pools of edition one and, in the rows that say so, of edition
+//! two with 64 words to a block.
 
 mod clock;
 mod plain;
@@ -67,7 +67,7 @@ fn wide(count: u32) -> Vec<Shape<Vertex>> {
     (0..count).map(at).collect()
 }
 
-/// The editions whose pools are timed: the second with this many words to a block.
+/// An edition; the second with so many words to a block.
 #[derive(Clone, Copy)]
 enum Edition {
     One,
@@ -75,25 +75,25 @@ enum Edition {
 }
 
 impl Edition {
-    fn unopened(self) -> Vec<u32> {
+    fn unopened(self, screen: Screen, blocks: u32) -> Vec<u32> {
         let room = match self {
-            Edition::One => room(SCREEN, BLOCKS),
-            Edition::Two(block_words) => room_two(SCREEN, BLOCKS, block_words),
+            Edition::One => room(screen, blocks),
+            Edition::Two(block_words) => room_two(screen, blocks, block_words),
         };
         vec![1; room.unwrap()]
     }
 
-    fn open(self, words: &mut [u32]) {
+    fn open(self, words: &mut [u32], screen: Screen, blocks: u32) {
         let answer = match self {
-            Edition::One => raw::open(words, SCREEN, BLOCKS),
-            Edition::Two(block_words) => raw::open_two(words, SCREEN, BLOCKS, block_words),
+            Edition::One => raw::open(words, screen, blocks),
+            Edition::Two(block_words) => raw::open_two(words, screen, blocks, block_words),
         };
         black_box(answer).done().unwrap();
     }
 
-    fn opened(self) -> Vec<u32> {
-        let mut words = self.unopened();
-        self.open(&mut words);
+    fn opened(self, screen: Screen, blocks: u32) -> Vec<u32> {
+        let mut words = self.unopened(screen, blocks);
+        self.open(&mut words, screen, blocks);
         words
     }
 
@@ -101,7 +101,15 @@ impl Edition {
     fn named(self, call: &str) -> String {
         match self {
             Edition::One => call.into(),
-            Edition::Two(block_words) => format!("{call}, edition two with {block_words} words to a block"),
+            Edition::Two(block_words) => format!("{call}, {block_words}-word blocks"),
+        }
+    }
+
+    /// How many ids a block holds.
+    fn ids_of_block(self) -> u32 {
+        match self {
+            Edition::One => 31,
+            Edition::Two(block_words) => block_words - 1,
         }
     }
 }
@@ -120,7 +128,7 @@ fn bin_all_plain(plain: &mut Plain, shapes: &[Shape<Vertex>]) {
 
 /// A pool with the shapes binned.
 fn filled(edition: Edition, shapes: &[Shape<Vertex>]) -> Vec<u32> {
-    let mut words = edition.opened();
+    let mut words = edition.opened(SCREEN, BLOCKS);
     bin_all(&mut words, shapes);
     words
 }
@@ -150,7 +158,7 @@ fn row(call: impl Into<String>, archive: f64, beside: Beside) -> Row {
 fn calls_on(edition: Edition, kind: &str, shapes: &[Shape<Vertex>], less_audit: fn(f64) -> Beside) -> Vec<Row> {
     let (words, plain) = (filled(edition, shapes), filled_plain(shapes));
     same_lists(&words, &plain);
-    let opened = || edition.opened();
+    let opened = || edition.opened(SCREEN, BLOCKS);
     let listed: usize = plain.lists.iter().map(Vec::len).sum();
     eprintln!("{kind}: {:.1} tiles each", listed as f64 / shapes.len() as f64);
     let bin_plain = time(shapes.len(), || Plain::open(SCREEN), |plain| bin_all_plain(plain, shapes));
@@ -229,7 +237,7 @@ fn calls_on(edition: Edition, kind: &str, shapes: &[Shape<Vertex>], less_audit: 
 }
 
 fn opening(edition: Edition) -> Row {
-    let archive = time(1, || edition.unopened(), |words| edition.open(words));
+    let archive = time(1, || edition.unopened(SCREEN, BLOCKS), |words| edition.open(words, SCREEN, BLOCKS));
     let plain = time(
         1,
         || (),
@@ -240,16 +248,31 @@ fn opening(edition: Edition) -> Row {
     row(edition.named("open"), archive, Beside::Plain(plain))
 }
 
+const ONE_TILE: Screen = Screen { width: 8, height: 8, s: 3 };
+
+/// The read of the last of 1,953 entries, on a pool of one tile and as many blocks as that fills: 63, or 31 of 64 words.
+fn long_read(edition: Edition) -> Row {
+    const CALLS: usize = 1000;
+    const ENTRIES: u32 = 63 * 31;
+    let mut words = edition.opened(ONE_TILE, ENTRIES / edition.ids_of_block());
+    bin_all(&mut words, &vec![Shape::Point(Vertex { x: 1, y: 1 }); ENTRIES as usize]);
+    let read = time(
+        CALLS,
+        || (),
+        |()| {
+            for _ in 0..CALLS {
+                black_box(raw::read(&words, 0, black_box(ENTRIES - 1))).done().unwrap();
+            }
+        },
+    );
+    row(edition.named("read, the last of 1,953 entries in one tile"), read, Beside::Nothing)
+}
+
 /// The bin of a triangle off the screen, on a pool of one tile and no block: what a bin takes where there is next to nothing
 /// to audit, to walk or to list.
 fn least_bin() -> Row {
     const CALLS: usize = 100_000;
-    let screen = Screen { width: 8, height: 8, s: 3 };
-    let prepare = || {
-        let mut words = vec![0; room(screen, 0).unwrap()];
-        raw::open(&mut words, screen, 0).done().unwrap();
-        words
-    };
+    let prepare = || Edition::One.opened(ONE_TILE, 0);
     let shape = triangle([-14_405, -12_803], [-11_202, -10_411], [-10_254, -12_444]);
     let bin = time(CALLS, prepare, |words| {
         for _ in 0..CALLS {
@@ -301,6 +324,7 @@ fn run() -> Vec<Row> {
         rows.push(opening(edition));
         rows.extend(calls_on(edition, "1,500 small shapes", &small(1500), Beside::PlainOfARange));
         rows.extend(calls_on(edition, "31 screen-wide shapes", &wide(31), Beside::Plain));
+        rows.push(long_read(edition));
     }
     rows.extend([least_bin(), snap("unit, a coordinate", Unit::HERE)]);
     rows.extend(Unit::OTHER.map(|unit| snap("unit, a coordinate, by the other archive", unit)));

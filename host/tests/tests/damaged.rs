@@ -169,7 +169,7 @@ struct Reached {
 fn the_audit_says_yes_exactly_for_sound_pools() {
     let mut reached: BTreeMap<Layout, Reached> = BTreeMap::new();
     let mut cut = 0;
-    hold(0xF100_0003, 200_000, |Damaged { state, .. }: &Damaged, verdict| {
+    hold(0xF100_0003, 400_000, |Damaged { state, .. }: &Damaged, verdict| {
         let reached = reached.entry(state.layout).or_default();
         *reached.verdicts.entry(verdict).or_default() += 1;
         reached.chain = reached.chain.max(state.longest_chain());
@@ -181,10 +181,10 @@ fn the_audit_says_yes_exactly_for_sound_pools() {
     assert_eq!(reached.len(), LAYOUTS.len());
     for Reached { verdicts, chain, largest } in reached.into_values() {
         assert_eq!(verdicts.len(), 11, "each sentence should be broken, and some pools be sound still");
-        assert!(verdicts.values().all(|&pools| pools > 200), "each often");
-        assert!(chain > 40 && largest > 5, "long chains and largest pools should be there");
+        assert!(verdicts.values().all(|&pools| pools > 500), "each often");
+        assert!(chain > 40 && largest > 20, "long chains and largest pools should be there");
     }
-    assert!(cut > 50_000, "screens that are cut on both axes should be common");
+    assert!(cut > 100_000, "screens that are cut on both axes should be common");
 }
 
 /// Each call on these words is refused with 4, and every word stays.

@@ -28,6 +28,11 @@ fn open(layout: Layout, screen: Screen, blocks: u32) -> Call {
     Call::Open { layout, screen, blocks: Blocks::These(blocks) }
 }
 
+/// Each of these in every layout.
+fn in_each_layout<T: Copy>(items: impl IntoIterator<Item = T>) -> impl Iterator<Item = (Layout, T)> {
+    items.into_iter().flat_map(|item| LAYOUTS.map(|layout| (layout, item)))
+}
+
 /// Words that say nothing.
 fn unopened(words: usize) -> Slot {
     Slot::over(vec![0xFFFF_FFFF; words], 0)
@@ -80,23 +85,21 @@ fn each_end() -> impl Iterator<Item = Screen> {
 #[test]
 fn a_screen_has_4096_tiles_and_no_more() {
     assert!(FULL.iter().all(|sizes| full_screens().contains(sizes)));
-    for layout in LAYOUTS {
-        for (sizes, screen) in each_full_screen() {
-            assert_eq!(screen.tiles(), 4096);
-            let mut slot = opened(layout, screen, 0);
-            for larger in one_more(sizes) {
-                expect(&mut slot, open(layout, larger, 0), alone(number::SCREEN));
-            }
+    for (layout, (sizes, screen)) in in_each_layout(each_full_screen()) {
+        assert_eq!(screen.tiles(), 4096);
+        let mut slot = opened(layout, screen, 0);
+        for larger in one_more(sizes) {
+            expect(&mut slot, open(layout, larger, 0), alone(number::SCREEN));
         }
-        // 4,095 and 4,097 tiles
+    }
+    // 4,095 and 4,097 tiles
+    for (layout, s) in in_each_layout(3..=4) {
         let mut slot = unopened(10 + 4 * 4097);
-        for s in 3..=4 {
-            for [columns, rows] in [[63, 65], [65, 63]] {
-                expect(&mut slot, open(layout, screen_with([columns, rows, s], [0, 0]), 0), alone(number::DONE));
-            }
-            for [columns, rows] in [[17, 241], [241, 17]] {
-                expect(&mut slot, open(layout, screen_with([columns, rows, s], [0, 0]), 0), alone(number::SCREEN));
-            }
+        for [columns, rows] in [[63, 65], [65, 63]] {
+            expect(&mut slot, open(layout, screen_with([columns, rows, s], [0, 0]), 0), alone(number::DONE));
+        }
+        for [columns, rows] in [[17, 241], [241, 17]] {
+            expect(&mut slot, open(layout, screen_with([columns, rows, s], [0, 0]), 0), alone(number::SCREEN));
         }
     }
 }
@@ -138,7 +141,7 @@ fn expect_point(slot: &mut Slot, screen: Screen, point: Vertex, tiles: &[u32], t
 #[test]
 fn the_last_tile_ends_where_the_screen_ends() {
     let full = each_full_screen().map(|(_, screen)| screen).chain([screen_with([64, 64, 6], [1, 1])]);
-    for (screen, layout) in each_end().chain(full).zip(LAYOUTS.into_iter().cycle()) {
+    for (layout, screen) in in_each_layout(each_end().chain(full)) {
         let [right, bottom] = end_of(screen);
         let mut slot = opened(layout, screen, 1);
         for x in right - 1..=right + 1 {
@@ -152,7 +155,7 @@ fn the_last_tile_ends_where_the_screen_ends() {
 
 #[test]
 fn the_last_column_and_row_end_where_the_screen_ends() {
-    for (screen, layout) in each_end().zip(LAYOUTS.into_iter().cycle()) {
+    for (layout, screen) in in_each_layout(each_end()) {
         let [columns, rows] = [screen.columns(), screen.rows()];
         let [right, bottom] = end_of(screen);
         let side = 16 << screen.s;
@@ -174,20 +177,13 @@ fn the_last_column_and_row_end_where_the_screen_ends() {
     }
 }
 
-/// Every layout with each of these screens and numbers of blocks.
-fn in_each_layout(pools: &[(Screen, u32)]) -> impl Iterator<Item = (Layout, Screen, u32)> + '_ {
-    LAYOUTS.into_iter().flat_map(|layout| pools.iter().map(move |&(screen, blocks)| (layout, screen, blocks)))
-}
-
 #[test]
 fn a_pool_has_2048_blocks_and_no_more() {
-    for (layout, screen, most) in
-        in_each_layout(&[ONE_TILE, screen_with(FULL[3], [0, 0])].map(|screen| (screen, MOST_BLOCKS)))
-    {
-        let mut slot = unopened(layout.room(screen, most + 1));
-        expect(&mut slot, open(layout, screen, most + 1), alone(number::BLOCKS));
+    for (layout, screen) in in_each_layout([ONE_TILE, screen_with(FULL[3], [0, 0])]) {
+        let mut slot = unopened(layout.room(screen, MOST_BLOCKS + 1));
+        expect(&mut slot, open(layout, screen, MOST_BLOCKS + 1), alone(number::BLOCKS));
         expect(&mut slot, open(layout, screen, u32::MAX), alone(number::BLOCKS));
-        expect(&mut slot, open(layout, screen, most), alone(number::DONE));
+        expect(&mut slot, open(layout, screen, MOST_BLOCKS), alone(number::DONE));
         expect(&mut slot, Call::Audit, alone(number::DONE));
     }
 }
@@ -213,7 +209,7 @@ fn a_block_has_32_or_64_words() {
 fn a_slice_is_as_long_as_the_room_or_longer() {
     let full = FULL.map(|sizes| (screen_with(sizes, [0, 0]), MOST_BLOCKS));
     let small = [(ONE_TILE, 0), (ONE_TILE, 1), (screen_with([4, 2, 4], [0, 0]), 2)];
-    for (layout, screen, blocks) in in_each_layout(&[&small[..], &full].concat()) {
+    for (layout, (screen, blocks)) in in_each_layout(small.into_iter().chain(full)) {
         let words = layout.room(screen, blocks);
         expect(&mut unopened(0), open(layout, screen, blocks), alone(number::SHORT));
         expect(&mut unopened(words - 1), open(layout, screen, blocks), alone(number::SHORT));
@@ -231,7 +227,7 @@ fn a_slice_is_as_long_as_the_room_or_longer() {
 #[test]
 fn a_shape_takes_2048_blocks_and_no_more() {
     let full = each_full_screen().filter(|(sizes, _)| FULL.contains(sizes));
-    for (([columns, rows, _], screen), layout) in full.zip(LAYOUTS.into_iter().cycle()) {
+    for (layout, ([columns, rows, _], screen)) in in_each_layout(full) {
         let half = |id| Call::Bin { id, shape: first_rows(screen, rows / 2) };
         expect(&mut opened(layout, screen, MOST_BLOCKS - 1), half(1), alone(number::NO_ROOM));
 

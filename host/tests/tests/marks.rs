@@ -132,7 +132,7 @@ fn as_many_blocks_as_the_marks_ask_for_are_enough() {
     println!("lists that need what the marks ask for, lists that need less, and the most blocks asked for: {seen:?}");
     assert_eq!(seen.len(), LAYOUTS.len());
     for [tight, loose, most] in seen.into_values() {
-        assert!(tight > 60, "a block less than the marks ask for should often be refused");
+        assert!(tight > 100, "a block less than the marks ask for should often be refused");
         assert!(loose > 60, "lists that give blocks back should be common");
         assert!(most > 100, "some lists should fill many tiles");
     }

@@ -87,11 +87,11 @@ static void keep_opened(void)
 /* Keeps the words of the pool case as they are after the bin of id 7. */
 static void keep_binned(void)
 {
-    static const uint32_t free_blocks[2] = {1, 2}, tile[4] = {1, 1, 1, 1};
-    uint32_t *blocks = kept + layout->header + 32;
+    uint32_t *tile = kept + layout->header, *blocks = tile + 32;
     keep_opened();
-    memcpy(kept + 4, free_blocks, sizeof free_blocks);
-    memcpy(kept + layout->header, tile, sizeof tile);
+    kept[4] = 1;
+    kept[5] = 2;
+    tile[0] = tile[1] = tile[2] = tile[3] = 1;
     blocks[0] = 7;
     blocks[layout->block_words - 1] = 0;
 }

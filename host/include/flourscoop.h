@@ -159,7 +159,8 @@ static inline const char *flourscoop_number_text(uint32_t number)
 uint32_t flourscoop_open(uint32_t *pool, size_t words, uint32_t width, uint32_t height, uint32_t s, uint32_t blocks);
 
 /*
- * The same of edition two, in which a block has block_words words: 32 or 64. For another number it returns 2.
+ * The same of edition two, in which a block has block_words words, 32 or 64. Another number of words is a cause of 2, as are
+ * too many blocks.
  * Returns 0; or 1, 2, 3, in this order.
  */
 uint32_t flourscoop_open_two(uint32_t *pool, size_t words, uint32_t width, uint32_t height, uint32_t s, uint32_t blocks,

@@ -187,13 +187,14 @@ fn the_audit_says_yes_exactly_for_sound_pools() {
     assert!(cut > 100_000, "screens that are cut on both axes should be common");
 }
 
-/// Each call on these words is refused with 4, and every word stays.
-fn expect_unsound(words: &[u32], what: &str) {
+/// Each call on these words is refused with 4, and every word stays. The answer is the words after the calls.
+fn expect_unsound(words: &[u32], what: &str) -> Vec<u32> {
     let mut slot = Slot::over(words.to_vec(), 0);
     for call in Call::each_on_a_pool() {
         assert_eq!(slot.call(&call), Ok([number::UNSOUND, 0, 0]), "{call:?} on {what}");
     }
     assert_eq!(slot.words, words, "{what}");
+    slot.words
 }
 
 /// The words are a sound pool of this layout: the audit says yes, and the mark of tile 0 is told before and after a release.
@@ -262,22 +263,20 @@ fn pools(layout: Layout) -> Vec<State> {
     small.into_iter().chain(others).map(state).collect()
 }
 
-/// Word 6, alone or with the word 7 that goes with it, says another edition, or none; then it is changed back.
+/// Word 6, alone or with the word 7 that goes with it, says another edition, or none; then both are changed back.
 #[test]
 fn a_pool_is_read_as_the_edition_that_word_6_tells() {
     for state in LAYOUTS.into_iter().flat_map(pools) {
-        let (own, tiles) = (state.layout.header() as u32, state.screen.tiles());
-        let mut words = state.words();
-        for word_6 in [0, 7, 8, 9, 10, 11, 32, 64, u32::MAX].into_iter().filter(|&word_6| word_6 != own) {
-            for word_7 in [words[7], word_6.wrapping_add(4 * tiles)] {
+        let words = state.words();
+        for word_6 in [0, 7, 8, 9, 10, 11, 32, 64, u32::MAX].into_iter().filter(|&word_6| word_6 != words[6]) {
+            for word_7 in [words[7], word_6.wrapping_add(4 * state.screen.tiles())] {
+                let what = format!("words 6 and 7 are {word_6} and {word_7} in {state:?}");
                 for slice in changed(&words, &[(6, word_6), (7, word_7)]) {
-                    expect_unsound(&slice, &format!("words 6 and 7 are {word_6} and {word_7} in {state:?}"));
+                    let mut after = expect_unsound(&slice, &what);
+                    after[6..8].copy_from_slice(&words[6..8]);
+                    expect_sound(&after, state.layout, &format!("{what}, and are changed back"));
                 }
             }
-            words[6] = word_6;
-            expect_unsound(&words, &format!("word 6 is {word_6} in {state:?}"));
-            words[6] = own;
-            expect_sound(&words, state.layout, &format!("word 6 is {own} again in {state:?}"));
         }
     }
 }

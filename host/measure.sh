@@ -16,7 +16,7 @@ if [ -n "$other" ]; then
     objcopy --redefine-syms="$made/other.names" "$other" "$made/libother.a"
     export FLOURSCOOP_OTHER=$PWD/$made
 fi
-say "times, in five runs; one to two minutes on an idle machine"
+say "times, in five runs; about three minutes on an idle machine"
 cargo run --offline --locked --quiet --release -p bench
 say "stack"
 cc -O1 -Wall -Wextra -Iinclude c/stack.c -L"$made" -lflourscoop -o "$made/stack"

@@ -1,5 +1,5 @@
-/* Every call by include/flourscoop.h, from C or C++: document 01's pool case, and one answer and one refusal of each; tiles
-   that the screen cuts; marks, and the blocks that they ask for; the header's room, texts and version. */
+/* Every call by include/flourscoop.h, from C or C++: document 01's pool case, one answer and one refusal of each, marks, and
+   the blocks that they ask for, all in both editions; tiles that the screen cuts; the header's rooms, texts and version. */
 #include <float.h>
 #include <math.h>
 #include <stdio.h>
@@ -7,10 +7,26 @@
 
 #include "flourscoop.h"
 
-enum { WIDTH = 64, HEIGHT = 32, S = 4, BLOCKS = 2, WORDS = FLOURSCOOP_ROOM(WIDTH, HEIGHT, S, BLOCKS) };
+enum { WIDTH = 64, HEIGHT = 32, S = 4, BLOCKS = 2, MOST_WORDS = FLOURSCOOP_ROOM_TWO(WIDTH, HEIGHT, S, BLOCKS, 64) };
 enum { CUT_WORDS = FLOURSCOOP_ROOM(4095, 9, 3, 1) };
 
-static uint32_t pool[WORDS], kept[WORDS], cut[CUT_WORDS];
+/* The layouts of a pool: words in the header and to a block, and the room and the header of the pool case. */
+static const struct layout {
+    uint32_t header, block_words;
+    size_t room;
+    uint32_t opened[10];
+} layouts[] = {
+    {8, 32, FLOURSCOOP_ROOM(WIDTH, HEIGHT, S, BLOCKS), {64, 32, 4, 2, 2, 1, 8, 40}},
+    {10, 32, FLOURSCOOP_ROOM_TWO(WIDTH, HEIGHT, S, BLOCKS, 32), {64, 32, 4, 2, 2, 1, 10, 42, 32, 0}},
+    {10, 64, FLOURSCOOP_ROOM_TWO(WIDTH, HEIGHT, S, BLOCKS, 64), {64, 32, 4, 2, 2, 1, 10, 42, 64, 0}},
+};
+
+/* The layout at hand, its words of the pool case, and the words that these should be. */
+static const struct layout *layout;
+static size_t room;
+static uint32_t pool[MOST_WORDS], kept[MOST_WORDS];
+
+static uint32_t cut[CUT_WORDS];
 static uint32_t value, other;
 static int passed, failed;
 
@@ -47,28 +63,37 @@ static void expect_that(int holds, const char *what)
 /* Counts a comparison of the pool with the words that are kept. */
 static void expect_kept(const char *what)
 {
-    expect_that(memcmp(pool, kept, sizeof pool) == 0, what);
+    expect_that(memcmp(pool, kept, room * sizeof *pool) == 0, what);
+}
+
+/* Opens a pool in the layout at hand, by the call of its edition. */
+static uint32_t open_pool(uint32_t *words, size_t length, uint32_t width, uint32_t height, uint32_t s, uint32_t blocks)
+{
+    return layout->header == 8 ? flourscoop_open(words, length, width, height, s, blocks)
+                               : flourscoop_open_two(words, length, width, height, s, blocks, layout->block_words);
 }
 
 /* Keeps the words of the pool case as they are after the opening. */
 static void keep_opened(void)
 {
-    static const uint32_t header[8] = {64, 32, 4, 2, 2, 1, 8, 40};
+    uint32_t *blocks = kept + layout->header + 32;
     memset(kept, 0, sizeof kept);
-    memcpy(kept, header, sizeof header);
-    for (size_t place = 0; place < 31; place++)
-        kept[40 + place] = kept[72 + place] = 0xDEADBEEF;
-    kept[71] = 2;
+    memcpy(kept, layout->opened, layout->header * sizeof *kept);
+    for (size_t place = 0; place < layout->block_words - 1; place++)
+        blocks[place] = blocks[layout->block_words + place] = 0xDEADBEEF;
+    blocks[layout->block_words - 1] = 2;
 }
 
 /* Keeps the words of the pool case as they are after the bin of id 7. */
 static void keep_binned(void)
 {
-    static const uint32_t header_and_tile[12] = {64, 32, 4, 2, 1, 2, 8, 40, 1, 1, 1, 1};
+    uint32_t *tile = kept + layout->header, *blocks = tile + 32;
     keep_opened();
-    memcpy(kept, header_and_tile, sizeof header_and_tile);
-    kept[40] = 7;
-    kept[71] = 0;
+    kept[4] = 1;
+    kept[5] = 2;
+    tile[0] = tile[1] = tile[2] = tile[3] = 1;
+    blocks[0] = 7;
+    blocks[layout->block_words - 1] = 0;
 }
 
 /* Asks for a mark; zero is written where it is refused. */
@@ -78,85 +103,118 @@ static void expect_mark(const uint32_t *words, size_t length, uint32_t tile, uin
     expect("high_water", flourscoop_high_water(words, length, tile, &value), wanted, mark, 0);
 }
 
-/* The words of the pool with three to a tile, as versions before 0.3.0 wrote them: each call answers 4 and changes none. */
+/* Each call on these words answers 4 and changes none. */
+static void expect_unsound(uint32_t *words, size_t length, const char *what)
+{
+    uint32_t before[MOST_WORDS];
+    memcpy(before, words, length * sizeof *words);
+    expect("audit", flourscoop_audit(words, length), FLOURSCOOP_UNSOUND, 0, 0);
+    expect("bin", flourscoop_bin_point(words, length, 1, 0, 0, &value, &other), FLOURSCOOP_UNSOUND, 0, 0);
+    expect("bin", flourscoop_bin_pixels_point(words, length, 1, 0, 0, &value, &other), FLOURSCOOP_UNSOUND, 0, 0);
+    expect("read", flourscoop_read(words, length, 0, 0, &value), FLOURSCOOP_UNSOUND, 0, 0);
+    expect_mark(words, length, 0, FLOURSCOOP_UNSOUND, 0);
+    expect("release", flourscoop_release(words, length, 0, &value), FLOURSCOOP_UNSOUND, 0, 0);
+    expect_that(memcmp(words, before, length * sizeof *words) == 0, what);
+}
+
+/* The words of a pool of edition one with three to a tile, as versions before 0.3.0 wrote them. */
 static void expect_old_refused(void)
 {
     enum { OLD_WORDS = 96 };
-    uint32_t old[OLD_WORDS], before[OLD_WORDS];
+    uint32_t old[OLD_WORDS];
     memcpy(old, pool, 7 * sizeof *old);
     old[7] = 32;
     for (size_t tile = 0; tile < 8; tile++)
         memcpy(old + 8 + 3 * tile, pool + 8 + 4 * tile, 3 * sizeof *old);
     memcpy(old + 32, pool + 40, 64 * sizeof *old);
-    memcpy(before, old, sizeof old);
-    expect("audit", flourscoop_audit(old, OLD_WORDS), FLOURSCOOP_UNSOUND, 0, 0);
-    expect("bin", flourscoop_bin_point(old, OLD_WORDS, 1, 0, 0, &value, &other), FLOURSCOOP_UNSOUND, 0, 0);
-    expect("bin", flourscoop_bin_pixels_point(old, OLD_WORDS, 1, 0, 0, &value, &other), FLOURSCOOP_UNSOUND, 0, 0);
-    expect("read", flourscoop_read(old, OLD_WORDS, 0, 0, &value), FLOURSCOOP_UNSOUND, 0, 0);
-    expect_mark(old, OLD_WORDS, 0, FLOURSCOOP_UNSOUND, 0);
-    expect("release", flourscoop_release(old, OLD_WORDS, 0, &value), FLOURSCOOP_UNSOUND, 0, 0);
-    expect_that(memcmp(old, before, sizeof old) == 0, "the words with three to a tile stay");
+    expect_unsound(old, OLD_WORDS, "the words with three to a tile stay");
+}
+
+/* The pool with a word changed, which is then changed back. */
+static void expect_changed_refused(size_t place, uint32_t word)
+{
+    const uint32_t before = pool[place];
+    pool[place] = word;
+    expect_unsound(pool, room, "the words with one changed stay");
+    pool[place] = before;
+    expect("audit", flourscoop_audit(pool, room), FLOURSCOOP_DONE, 0, 0);
+}
+
+/* The words that tell the layout. */
+static void expect_other_layouts_refused(void)
+{
+    expect_changed_refused(6, layout->header == 8 ? 10 : 8);
+    if (layout->header == 8) {
+        expect_old_refused();
+        return;
+    }
+    expect_changed_refused(8, 96 - layout->block_words);
+    expect_changed_refused(8, 48);
+    expect_changed_refused(9, 1);
 }
 
 /* The pool case, word by word. */
 static void pool_case(void)
 {
-    expect("open", flourscoop_open(pool, WORDS, WIDTH, HEIGHT, S, BLOCKS), FLOURSCOOP_DONE, 0, 0);
+    expect("open", open_pool(pool, room, WIDTH, HEIGHT, S, BLOCKS), FLOURSCOOP_DONE, 0, 0);
     keep_opened();
     expect_kept("the words after the opening");
-    expect_old_refused();
-    expect("audit", flourscoop_audit(pool, WORDS), FLOURSCOOP_DONE, 0, 0);
+    expect_other_layouts_refused();
+    expect("audit", flourscoop_audit(pool, room), FLOURSCOOP_DONE, 0, 0);
 
-    expect("bin (0,0)", flourscoop_bin_point(pool, WORDS, 7, 0, 0, &value, &other), FLOURSCOOP_DONE, 1, 1);
+    expect("bin (0,0)", flourscoop_bin_point(pool, room, 7, 0, 0, &value, &other), FLOURSCOOP_DONE, 1, 1);
     keep_binned();
     expect_kept("the words after the bin");
-    expect_old_refused();
-    expect("read", flourscoop_read(pool, WORDS, 0, 0, &value), FLOURSCOOP_DONE, 7, 0);
-    expect_mark(pool, WORDS, 0, FLOURSCOOP_DONE, 1);
-    expect("bin (256,256)", flourscoop_bin_point(pool, WORDS, 9, 256, 256, &value, &other), FLOURSCOOP_NO_ROOM, 0, 0);
+    expect_other_layouts_refused();
+    expect("read", flourscoop_read(pool, room, 0, 0, &value), FLOURSCOOP_DONE, 7, 0);
+    expect_mark(pool, room, 0, FLOURSCOOP_DONE, 1);
+    expect("bin (256,256)", flourscoop_bin_point(pool, room, 9, 256, 256, &value, &other), FLOURSCOOP_NO_ROOM, 0, 0);
     expect_kept("the words after the refusal");
 
-    expect("release", flourscoop_release(pool, WORDS, 0, &value), FLOURSCOOP_DONE, 1, 0);
+    expect("release", flourscoop_release(pool, room, 0, &value), FLOURSCOOP_DONE, 1, 0);
     keep_opened();
-    kept[11] = 1; /* the mark of tile 0 */
+    kept[layout->header + 3] = 1; /* the mark of tile 0 */
     expect_kept("the words after the release");
 }
 
 /* Marks of the pool case after its release, and of words that are no sound pool. */
 static void marks(void)
 {
-    expect_mark(pool, WORDS, 0, FLOURSCOOP_DONE, 1);
-    expect_mark(pool, WORDS, 1, FLOURSCOOP_DONE, 0);
-    expect_mark(pool, WORDS, 7, FLOURSCOOP_DONE, 0);
-    expect_mark(pool, WORDS, 8, FLOURSCOOP_NO_TILE, 0);
-    expect_mark(pool, WORDS, UINT32_MAX, FLOURSCOOP_NO_TILE, 0);
-    expect_mark(pool, WORDS - 1, 8, FLOURSCOOP_UNSOUND, 0);
+    uint32_t *mark = pool + layout->header + 3, most = BLOCKS * (layout->block_words - 1);
+    expect_mark(pool, room, 0, FLOURSCOOP_DONE, 1);
+    expect_mark(pool, room, 1, FLOURSCOOP_DONE, 0);
+    expect_mark(pool, room, 7, FLOURSCOOP_DONE, 0);
+    expect_mark(pool, room, 8, FLOURSCOOP_NO_TILE, 0);
+    expect_mark(pool, room, UINT32_MAX, FLOURSCOOP_NO_TILE, 0);
+    expect_mark(pool, room - 1, 8, FLOURSCOOP_UNSOUND, 0);
     expect_mark(NULL, 0, 0, FLOURSCOOP_UNSOUND, 0);
-    /* two blocks hold 62 entries */
-    pool[11] = 62;
-    expect_mark(pool, WORDS, 0, FLOURSCOOP_DONE, 62);
-    pool[11] = 63;
-    expect_mark(pool, WORDS, 0, FLOURSCOOP_UNSOUND, 0);
-    pool[11] = 1;
+    /* as many entries as both blocks hold, and one more */
+    *mark = most;
+    expect_mark(pool, room, 0, FLOURSCOOP_DONE, most);
+    *mark = most + 1;
+    expect_mark(pool, room, 0, FLOURSCOOP_UNSOUND, 0);
+    *mark = 1;
     expect_kept("the words after the marks");
 }
 
 /* The blocks that the marks of a pool ask for, as the header has it. */
 static uint32_t blocks_by_marks(const uint32_t *words, size_t length)
 {
-    uint32_t tile, mark, blocks = 0;
+    uint32_t tile, mark, blocks = 0, ids = (words[6] == 8 ? 32 : words[8]) - 1;
     for (tile = 0; flourscoop_high_water(words, length, tile, &mark) == FLOURSCOOP_DONE; tile++)
-        blocks += (mark + 30) / 31;
+        blocks += (mark + ids - 1) / ids;
     return blocks;
 }
 
-/* Bins 32 points in tile 0 and one in tile 1, and answers how many of these were refused for room. */
+/* Bins in tile 0 a point more than a block holds, and one in tile 1, and answers how many were refused for room. */
 static int refused_in(uint32_t *words, size_t length, uint32_t blocks)
 {
+    const uint32_t in_tile_0 = layout->block_words;
     int refused = 0;
-    expect("open", flourscoop_open(words, length, WIDTH, HEIGHT, S, blocks), FLOURSCOOP_DONE, 0, 0);
-    for (uint32_t id = 0; id < 33; id++)
-        refused += flourscoop_bin_point(words, length, id, id < 32 ? 10 : 300, 10, &value, &other) == FLOURSCOOP_NO_ROOM;
+    expect("open", open_pool(words, length, WIDTH, HEIGHT, S, blocks), FLOURSCOOP_DONE, 0, 0);
+    for (uint32_t id = 0; id <= in_tile_0; id++)
+        refused += flourscoop_bin_point(words, length, id, id < in_tile_0 ? 10 : 300, 10, &value, &other) ==
+                   FLOURSCOOP_NO_ROOM;
     value = other = 0;
     return refused;
 }
@@ -164,7 +222,7 @@ static int refused_in(uint32_t *words, size_t length, uint32_t blocks)
 /* As many blocks as the marks ask for are enough, and here one less is not. */
 static void blocks_for_marks(void)
 {
-    static uint32_t large[FLOURSCOOP_ROOM(WIDTH, HEIGHT, S, 2048)];
+    static uint32_t large[FLOURSCOOP_ROOM_TWO(WIDTH, HEIGHT, S, 2048, 64)];
     const size_t length = sizeof large / sizeof *large;
     expect_that(refused_in(large, length, 2048) == 0 && blocks_by_marks(large, length) == 3, "the marks ask for 3 blocks");
     expect_that(refused_in(large, length, 3) == 0, "3 blocks are enough");
@@ -177,18 +235,18 @@ static void shapes(void)
     for (int kind = 0; kind < 6; kind++) {
         uint32_t number = 0;
         switch (kind) {
-        case 0: number = flourscoop_bin_point(pool, WORDS, 1, 256, 100, &value, &other); break;
-        case 1: number = flourscoop_bin_line(pool, WORDS, 1, 100, 100, 300, 100, &value, &other); break;
-        case 2: number = flourscoop_bin_triangle(pool, WORDS, 1, 100, 100, 300, 100, 200, 200, &value, &other); break;
-        case 3: number = flourscoop_bin_pixels_point(pool, WORDS, 1, 16, 6.25f, &value, &other); break;
-        case 4: number = flourscoop_bin_pixels_line(pool, WORDS, 1, 6, 6, 19, 6, &value, &other); break;
-        default: number = flourscoop_bin_pixels_triangle(pool, WORDS, 1, 6, 6, 19, 6, 12, 12, &value, &other); break;
+        case 0: number = flourscoop_bin_point(pool, room, 1, 256, 100, &value, &other); break;
+        case 1: number = flourscoop_bin_line(pool, room, 1, 100, 100, 300, 100, &value, &other); break;
+        case 2: number = flourscoop_bin_triangle(pool, room, 1, 100, 100, 300, 100, 200, 200, &value, &other); break;
+        case 3: number = flourscoop_bin_pixels_point(pool, room, 1, 16, 6.25f, &value, &other); break;
+        case 4: number = flourscoop_bin_pixels_line(pool, room, 1, 6, 6, 19, 6, &value, &other); break;
+        default: number = flourscoop_bin_pixels_triangle(pool, room, 1, 6, 6, 19, 6, 12, 12, &value, &other); break;
         }
         expect("bin", number, FLOURSCOOP_DONE, 2, 2);
-        kept[15] = 1; /* the mark of tile 1 */
+        kept[layout->header + 7] = 1; /* the mark of tile 1 */
         /* in this order, so that the free chain rises again */
-        expect("release 1", flourscoop_release(pool, WORDS, 1, &value), FLOURSCOOP_DONE, 1, 0);
-        expect("release 0", flourscoop_release(pool, WORDS, 0, &value), FLOURSCOOP_DONE, 1, 0);
+        expect("release 1", flourscoop_release(pool, room, 1, &value), FLOURSCOOP_DONE, 1, 0);
+        expect("release 0", flourscoop_release(pool, room, 0, &value), FLOURSCOOP_DONE, 1, 0);
         expect_kept("the words after both releases");
     }
 }
@@ -294,42 +352,55 @@ static void ends(void)
 /* One refusal of each number. */
 static void refusals(void)
 {
-    expect("1", flourscoop_open(pool, WORDS, WIDTH, HEIGHT, 7, BLOCKS), FLOURSCOOP_SCREEN, 0, 0);
-    expect("2", flourscoop_open(pool, WORDS, WIDTH, HEIGHT, S, 2049), FLOURSCOOP_BLOCKS, 0, 0);
-    expect("3", flourscoop_open(pool, WORDS - 1, WIDTH, HEIGHT, S, BLOCKS), FLOURSCOOP_SHORT, 0, 0);
+    static const uint32_t sizes[] = {0, 1, 31, 33, 48, 63, 65, 128, UINT32_MAX};
+    expect("1", open_pool(pool, room, WIDTH, HEIGHT, 7, BLOCKS), FLOURSCOOP_SCREEN, 0, 0);
+    expect("2", open_pool(pool, room, WIDTH, HEIGHT, S, 2049), FLOURSCOOP_BLOCKS, 0, 0);
+    for (size_t at = 0; at < sizeof sizes / sizeof *sizes; at++) {
+        expect("1", flourscoop_open_two(pool, 0, WIDTH, HEIGHT, 7, 0, sizes[at]), FLOURSCOOP_SCREEN, 0, 0);
+        expect("2", flourscoop_open_two(pool, 0, WIDTH, HEIGHT, S, 0, sizes[at]), FLOURSCOOP_BLOCKS, 0, 0);
+        expect("2", flourscoop_open_two(pool, room, WIDTH, HEIGHT, S, BLOCKS, sizes[at]), FLOURSCOOP_BLOCKS, 0, 0);
+    }
+    expect("3", open_pool(pool, room - 1, WIDTH, HEIGHT, S, BLOCKS), FLOURSCOOP_SHORT, 0, 0);
     expect("4", flourscoop_audit(NULL, 0), FLOURSCOOP_UNSOUND, 0, 0);
-    expect("5", flourscoop_bin_point(pool, WORDS, 16777216, 0, 0, &value, &other), FLOURSCOOP_ID, 0, 0);
-    expect("6", flourscoop_bin_pixels_point(pool, WORDS, 1, INFINITY, 0, &value, &other), FLOURSCOOP_NOT_FINITE, 0, 0);
-    expect("7", flourscoop_bin_point(pool, WORDS, 1, 262144, 0, &value, &other), FLOURSCOOP_OUT_OF_RANGE, 0, 0);
-    expect("9", flourscoop_release(pool, WORDS, 8, &value), FLOURSCOOP_NO_TILE, 0, 0);
-    expect("9", flourscoop_high_water(pool, WORDS, 8, &value), FLOURSCOOP_NO_TILE, 0, 0);
-    expect("10", flourscoop_read(pool, WORDS, 0, 0, &value), FLOURSCOOP_NO_PLACE, 0, 0);
+    expect("5", flourscoop_bin_point(pool, room, 16777216, 0, 0, &value, &other), FLOURSCOOP_ID, 0, 0);
+    expect("6", flourscoop_bin_pixels_point(pool, room, 1, INFINITY, 0, &value, &other), FLOURSCOOP_NOT_FINITE, 0, 0);
+    expect("7", flourscoop_bin_point(pool, room, 1, 262144, 0, &value, &other), FLOURSCOOP_OUT_OF_RANGE, 0, 0);
+    expect("9", flourscoop_release(pool, room, 8, &value), FLOURSCOOP_NO_TILE, 0, 0);
+    expect("9", flourscoop_high_water(pool, room, 8, &value), FLOURSCOOP_NO_TILE, 0, 0);
+    expect("10", flourscoop_read(pool, room, 0, 0, &value), FLOURSCOOP_NO_PLACE, 0, 0);
     expect_kept("the words after the refusals");
 }
 
-static size_t room_of_sizes(size_t width, size_t height, size_t s, size_t blocks)
+/* Adds up the rooms of both editions. */
+#define BOTH_ROOMS(width, height, s, blocks, block_words) \
+    (FLOURSCOOP_ROOM(width, height, s, blocks) + FLOURSCOOP_ROOM_TWO(width, height, s, blocks, block_words))
+
+static size_t rooms_of_sizes(size_t width, size_t height, size_t s, size_t blocks, size_t block_words)
 {
-    return FLOURSCOOP_ROOM(width, height, s, blocks);
+    return BOTH_ROOMS(width, height, s, blocks, block_words);
 }
 
-static size_t room_of_words(uint32_t width, uint32_t height, uint32_t s, uint32_t blocks)
+static size_t rooms_of_words(uint32_t width, uint32_t height, uint32_t s, uint32_t blocks, uint32_t block_words)
 {
-    return FLOURSCOOP_ROOM(width, height, s, blocks);
+    return BOTH_ROOMS(width, height, s, blocks, block_words);
 }
 
-static size_t room_of_ints(int width, int height, int s, int blocks)
+static size_t rooms_of_ints(int width, int height, int s, int blocks, int block_words)
 {
-    return FLOURSCOOP_ROOM(width, height, s, blocks);
+    return BOTH_ROOMS(width, height, s, blocks, block_words);
 }
 
-/* The room is the same for constants and for each type of the arguments. */
+/* The rooms are the same for constants and for each type of the arguments. */
 static void rooms(void)
 {
-    expect_that(sizeof pool == 104 * sizeof *pool, "the pool case has 104 words");
-    expect_that(FLOURSCOOP_ROOM(4096, 4096, 6, 2048) == 81928, "the largest pool has 81,928 words");
-    expect_that(room_of_sizes(60, 31, 4, 2) == 104, "a room of size_t");
-    expect_that(room_of_words(60, 31, 4, 2) == 104, "a room of uint32_t");
-    expect_that(room_of_ints(60, 31, 4, 2) == 104, "a room of int");
+    expect_that(FLOURSCOOP_ROOM(WIDTH, HEIGHT, S, BLOCKS) == 104, "the pool case has 104 words");
+    expect_that(FLOURSCOOP_ROOM_TWO(WIDTH, HEIGHT, S, BLOCKS, 32) == 106, "and 106 in edition two");
+    expect_that(sizeof pool == 170 * sizeof *pool, "and 170 with blocks of 64 words");
+    expect_that(FLOURSCOOP_ROOM(4096, 4096, 6, 2048) == 81928, "the largest pool of edition one has 81,928 words");
+    expect_that(FLOURSCOOP_ROOM_TWO(4096, 4096, 6, 2048, 64) == 147466, "the largest of edition two has 147,466");
+    expect_that(rooms_of_sizes(60, 31, 4, 2, 64) == 104 + 170, "rooms of size_t");
+    expect_that(rooms_of_words(60, 31, 4, 2, 64) == 104 + 170, "rooms of uint32_t");
+    expect_that(rooms_of_ints(60, 31, 4, 2, 64) == 104 + 170, "rooms of int");
 }
 
 /* Each number has a text of its own, and so have all others together; the version is said twice alike. */
@@ -348,13 +419,17 @@ static void texts(void)
 
 int main(void)
 {
-    pool_case();
-    marks();
-    shapes();
+    for (size_t at = 0; at < sizeof layouts / sizeof *layouts; at++) {
+        layout = &layouts[at];
+        room = layout->room;
+        pool_case();
+        marks();
+        shapes();
+        refusals();
+        blocks_for_marks();
+    }
     units();
     questions();
-    refusals();
-    blocks_for_marks();
     ends();
     rooms();
     texts();

@@ -19,9 +19,9 @@
  *   of which each only audits, reads or asks for a mark may. Calls that take no pool may always run.
  *
  * STACK, in bytes, as measured, on x86-64 in an emulator; of bin's, 16,384 list the touched tiles
- *               bin      audit   read    high_water   release   corner   box   open   unit
- *     x86-64    17,296   2,256   2,288   2,288        2,288     352      192   64     16
- *     Arm       17,216   2,256   2,304   2,288        2,288     240      160   64     32
+ *               bin      audit   read    high_water   release   corner   box   open, open_two   unit
+ *     x86-64    17,296   2,256   2,288   2,288        2,288     352      192   64               16
+ *     Arm       17,232   2,992   3,024   3,008        3,008     240      160   128              32
  *
  * SCREEN AND UNITS
  *   A screen has a width and a height of 1 to 4,096 pixels. A tile is a square of 2^s by 2^s pixels, s from 3 to 6, cut
@@ -39,29 +39,35 @@
  *   its point.
  *
  * THE POOL
- *   It needs 8 + 4*tiles + 32*blocks words (FLOURSCOOP_ROOM), which are these. A link is a block's number plus 1, or 0 for
- *   none. Blocks are numbered from 0.
+ *   It is of one of two editions, and every call reads either. With a header of H words and B words to a block, it needs
+ *   H + 4*tiles + B*blocks words.
+ *                    opened by             H    B          words needed
+ *     edition one    flourscoop_open        8   32         FLOURSCOOP_ROOM
+ *     edition two    flourscoop_open_two   10   32 or 64   FLOURSCOOP_ROOM_TWO
+ *   The words are these. A link is a block's number plus 1, or 0 for none. Blocks are numbered from 0.
  *     word 0, 1, 2    width, height, s
  *     word 3          blocks, 0 to 2,048
  *     word 4          free blocks
  *     word 5          link to the first free block
- *     word 6          where the tiles start: 8
- *     word 7          where the blocks start: 8 + 4*tiles
- *   Then four words for each tile, tile t from word 8 + 4*t: entries, link to its first block, link to its last block, and
+ *     word 6          where the tiles start: H, which tells the edition
+ *     word 7          where the blocks start: H + 4*tiles
+ *     word 8, 9       in edition two alone: B, 0
+ *   Then four words for each tile, tile t from word H + 4*t: entries, link to its first block, link to its last block, and
  *   its mark, the most entries that it had since the opening. A tile that never had an entry has 0, 0, 0, 0, a released one
- *   0, 0, 0 and its mark. A mark is at least the tile's entries and at most 31*blocks.
- *   Then 32 words for each block, block b from word (word 7) + 32*b: 31 places for ids, then the link to the next block.
- *   A tile with q entries has a chain of q/31 blocks, rounded up; its list is the first q places along the chain. The free
- *   blocks are a chain as well. Every block stands in one of these chains, once. An id is 0 to 16,777,215. Each place
+ *   0, 0, 0 and its mark. A mark is at least the tile's entries and at most (B-1)*blocks.
+ *   Then B words for each block, block b from word (word 7) + B*b: B-1 places for ids, then the link to the next block.
+ *   A tile with q entries has a chain of q/(B-1) blocks, rounded up; its list is the first q places along the chain. The
+ *   free blocks are a chain as well. Every block stands in one of these chains, once. An id is 0 to 16,777,215. Each place
  *   without an id, those of free blocks too, holds poison, 0xDEADBEEF.
  *   Open chains the free blocks in rising order and sets each mark to 0. Bin takes the head of the free chain for a tile
- *   exactly where its number of entries is a multiple of 31, zero included; where the entries pass the mark, the mark
+ *   exactly where its number of entries is a multiple of B-1, zero included; where the entries pass the mark, the mark
  *   rises with them. Release gives the blocks back in the order of their chain, each poisoned and made the new head of the
  *   free chain, so that the last of them is taken first. It keeps the mark.
- *   Words with three to a tile, as versions before 0.3.0 wrote them, are not a sound pool: calls on them answer 4.
+ *   A pool that version 0.3.0 wrote is one of edition one. Words with three to a tile, as versions before that wrote them,
+ *   are not a sound pool: calls on them answer 4. Calls of a version before 0.4.0 answer 4 on a pool of edition two.
  *
- *   An example: a screen of 64 by 32 with s = 4 has 8 tiles; with 2 blocks it needs 104 words. Opened, and then id 7 binned
- *   as the point (0,0), which touches tile 0 alone:
+ *   An example: a screen of 64 by 32 with s = 4 has 8 tiles; with 2 blocks it needs 104 words in edition one. Opened, and
+ *   then id 7 binned as the point (0,0), which touches tile 0 alone:
  *     word  0 to   7   64 32 4 2 1 2 8 40            block 1 is the one free block
  *     word  8 to  11   1 1 1 1                       tile 0: one entry; block 0 is its first and last; its mark is 1
  *     word 12 to  39   0, each                       the other tiles never had an entry
@@ -69,17 +75,22 @@
  *     word 72 to 103   31 times poison, 0            block 1: free, and no next block
  *   Then id 9 as the point (256,256) touches tiles 0, 1, 4 and 5, of which three are empty and need a block each: it is
  *   refused with 8, and no word changes. A release of tile 0 brings back the opened pool but for word 11, the mark, which
- *   stays 1.
+ *   stays 1. In edition two with B = 64 it needs 170 words, and all answers are the same. Opened, and then id 7 binned:
+ *     word   0 to   9   64 32 4 2 1 2 10 42 64 0
+ *     word  10 to  13   1 1 1 1
+ *     word  14 to  41   0, each
+ *     word  42 to 105   7, 62 times poison, 0
+ *     word 106 to 169   63 times poison, 0
  *
  * HOW MANY BLOCKS
  *   The marks tell. Open a pool with blocks to spare, make the calls of a frame, and add up the blocks that the marks need:
- *     uint32_t tile, mark, blocks = 0;
+ *     uint32_t tile, mark, blocks = 0, ids = (pool[6] == 8 ? 32 : pool[8]) - 1;
  *     for (tile = 0; flourscoop_high_water(pool, words, tile, &mark) == FLOURSCOOP_DONE; tile++)
- *         blocks += (mark + 30) / 31;
- *   Where no call was refused with 8, a pool for the same screen with at least so many blocks gives each of these calls the
- *   same answer. Where one was, the marks do not count it: make the calls again in a pool with more blocks. Where tiles
- *   are released between bins, one can take the blocks that another gave back, and for the very same calls fewer do: the
- *   most that were in use at once, word 3 less word 4.
+ *         blocks += (mark + ids - 1) / ids;
+ *   Where no call was refused with 8, a pool for the same screen with the same H and B and at least so many blocks gives
+ *   each of these calls the same answer. Where one was, the marks do not count it: make the calls again in a pool with more
+ *   blocks. Where tiles are released between bins, one can take the blocks that another gave back, and for the very same
+ *   calls fewer do: the most that were in use at once, word 3 less word 4.
  */
 #ifndef FLOURSCOOP_H
 #define FLOURSCOOP_H
@@ -93,9 +104,9 @@ extern "C" {
 
 /* The version of this header, and of the archive that goes with it. */
 #define FLOURSCOOP_VERSION_MAJOR 0
-#define FLOURSCOOP_VERSION_MINOR 3
+#define FLOURSCOOP_VERSION_MINOR 4
 #define FLOURSCOOP_VERSION_PATCH 0
-#define FLOURSCOOP_VERSION "0.3.0"
+#define FLOURSCOOP_VERSION "0.4.0"
 
 /* The numbers; their texts follow. Where several causes apply, each call's comment has the order of looking for them. */
 #define FLOURSCOOP_DONE 0u
@@ -116,7 +127,7 @@ static inline const char *flourscoop_number_text(uint32_t number)
     switch (number) {
     case FLOURSCOOP_DONE: return "done";
     case FLOURSCOOP_SCREEN: return "the screen or s is outside the rules";
-    case FLOURSCOOP_BLOCKS: return "more than 2,048 blocks";
+    case FLOURSCOOP_BLOCKS: return "more than 2,048 blocks, or blocks of neither 32 nor 64 words";
     case FLOURSCOOP_SHORT: return "the slice is shorter than the room needed";
     case FLOURSCOOP_UNSOUND: return "the words are not a sound pool";
     case FLOURSCOOP_ID: return "the id is above 16,777,215";
@@ -130,18 +141,30 @@ static inline const char *flourscoop_number_text(uint32_t number)
 }
 
 /*
- * The words that a pool needs, as a size_t, for a screen within the rules and any whole-number types of the arguments; a
- * constant expression where they are.
+ * The words that a pool of edition one or two needs, as a size_t, for a screen within the rules and any whole-number types
+ * of the arguments; a constant expression where they are.
  */
 #define FLOURSCOOP_ACROSS(extent, s) (((size_t)(extent) + ((size_t)1 << (s)) - 1u) >> (s))
+#define FLOURSCOOP_TABLE(width, height, s) (4u * FLOURSCOOP_ACROSS(width, s) * FLOURSCOOP_ACROSS(height, s))
 #define FLOURSCOOP_ROOM(width, height, s, blocks) \
-    (8u + 4u * FLOURSCOOP_ACROSS(width, s) * FLOURSCOOP_ACROSS(height, s) + 32u * (size_t)(blocks))
+    (8u + FLOURSCOOP_TABLE(width, height, s) + 32u * (size_t)(blocks))
+#define FLOURSCOOP_ROOM_TWO(width, height, s, blocks, block_words) \
+    (10u + FLOURSCOOP_TABLE(width, height, s) + (size_t)(block_words) * (size_t)(blocks))
 
 /*
- * Opens a pool: all tiles empty, all marks 0, all blocks free. What stood in the words before does not matter.
+ * Opens a pool of edition one: all tiles empty, all marks 0, all blocks free. What stood in the words before does not
+ * matter.
  * Returns 0; or 1, 2, 3, in this order.
  */
 uint32_t flourscoop_open(uint32_t *pool, size_t words, uint32_t width, uint32_t height, uint32_t s, uint32_t blocks);
+
+/*
+ * The same of edition two, in which a block has block_words words, 32 or 64. Another number of words is a cause of 2, as are
+ * too many blocks.
+ * Returns 0; or 1, 2, 3, in this order.
+ */
+uint32_t flourscoop_open_two(uint32_t *pool, size_t words, uint32_t width, uint32_t height, uint32_t s, uint32_t blocks,
+                             uint32_t block_words);
 
 /*
  * Says whether the words are a sound pool: header, chains, counts, marks and ids in range, poison in every unused place.

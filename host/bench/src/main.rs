@@ -1,5 +1,6 @@
 //! Nanoseconds per call of the archive beside a plain Rust binner, in five runs; of another version's archive, where one is
-//! given, the unit too. Screen 800 by 480, s = 4, 2,048 blocks.
+//! given, the unit too. Screen 800 by 480, s = 4, 2,048 blocks; pools of edition one and, in the rows that say so, of edition
+//! two with 64 words to a block.
 
 mod clock;
 mod plain;
@@ -8,7 +9,7 @@ mod unit;
 
 use std::hint::black_box;
 
-use flourscoop::{raw, room, Screen, Shape, Vertex};
+use flourscoop::{raw, room, room_two, Screen, Shape, Vertex};
 use plain::Plain;
 use table::{Beside, Row};
 use unit::Unit;
@@ -66,10 +67,51 @@ fn wide(count: u32) -> Vec<Shape<Vertex>> {
     (0..count).map(at).collect()
 }
 
-fn opened() -> Vec<u32> {
-    let mut words = vec![0; room(SCREEN, BLOCKS).unwrap()];
-    raw::open(&mut words, SCREEN, BLOCKS).done().unwrap();
-    words
+/// An edition; the second with so many words to a block.
+#[derive(Clone, Copy)]
+enum Edition {
+    One,
+    Two(u32),
+}
+
+impl Edition {
+    fn unopened(self, screen: Screen, blocks: u32) -> Vec<u32> {
+        let room = match self {
+            Edition::One => room(screen, blocks),
+            Edition::Two(block_words) => room_two(screen, blocks, block_words),
+        };
+        vec![1; room.unwrap()]
+    }
+
+    fn open(self, words: &mut [u32], screen: Screen, blocks: u32) {
+        let answer = match self {
+            Edition::One => raw::open(words, screen, blocks),
+            Edition::Two(block_words) => raw::open_two(words, screen, blocks, block_words),
+        };
+        black_box(answer).done().unwrap();
+    }
+
+    fn opened(self, screen: Screen, blocks: u32) -> Vec<u32> {
+        let mut words = self.unopened(screen, blocks);
+        self.open(&mut words, screen, blocks);
+        words
+    }
+
+    /// The name of a call on such a pool.
+    fn named(self, call: &str) -> String {
+        match self {
+            Edition::One => call.into(),
+            Edition::Two(block_words) => format!("{call}, {block_words}-word blocks"),
+        }
+    }
+
+    /// How many ids a block holds.
+    fn ids_of_block(self) -> u32 {
+        match self {
+            Edition::One => 31,
+            Edition::Two(block_words) => block_words - 1,
+        }
+    }
 }
 
 fn bin_all(words: &mut [u32], shapes: &[Shape<Vertex>]) {
@@ -84,18 +126,24 @@ fn bin_all_plain(plain: &mut Plain, shapes: &[Shape<Vertex>]) {
     }
 }
 
-/// A pool and a plain binner with the shapes binned.
-fn filled(shapes: &[Shape<Vertex>]) -> (Vec<u32>, Plain) {
-    let (mut words, mut plain) = (opened(), Plain::open(SCREEN));
+/// A pool with the shapes binned.
+fn filled(edition: Edition, shapes: &[Shape<Vertex>]) -> Vec<u32> {
+    let mut words = edition.opened(SCREEN, BLOCKS);
     bin_all(&mut words, shapes);
+    words
+}
+
+/// A plain binner with the shapes binned.
+fn filled_plain(shapes: &[Shape<Vertex>]) -> Plain {
+    let mut plain = Plain::open(SCREEN);
     bin_all_plain(&mut plain, shapes);
-    (words, plain)
+    plain
 }
 
 /// The archive's list of each tile is the plain binner's, id by id.
 fn same_lists(words: &[u32], plain: &Plain) {
     for (tile, list) in (0..).zip(&plain.lists) {
-        assert_eq!(words[8 + 4 * tile as usize] as usize, list.len());
+        assert_eq!(words[(words[6] + 4 * tile) as usize] as usize, list.len());
         for (place, &id) in (0..).zip(list) {
             assert_eq!(raw::read(words, tile, place).done(), Ok([id]));
         }
@@ -107,9 +155,10 @@ fn row(call: impl Into<String>, archive: f64, beside: Beside) -> Row {
 }
 
 /// The calls on a pool with these shapes. `less_audit` says what stands beside a bin less its audit.
-fn calls_on(kind: &str, shapes: &[Shape<Vertex>], less_audit: fn(f64) -> Beside) -> Vec<Row> {
-    let (words, plain) = filled(shapes);
+fn calls_on(edition: Edition, kind: &str, shapes: &[Shape<Vertex>], less_audit: fn(f64) -> Beside) -> Vec<Row> {
+    let (words, plain) = (filled(edition, shapes), filled_plain(shapes));
     same_lists(&words, &plain);
+    let opened = || edition.opened(SCREEN, BLOCKS);
     let listed: usize = plain.lists.iter().map(Vec::len).sum();
     eprintln!("{kind}: {:.1} tiles each", listed as f64 / shapes.len() as f64);
     let bin_plain = time(shapes.len(), || Plain::open(SCREEN), |plain| bin_all_plain(plain, shapes));
@@ -169,31 +218,26 @@ fn calls_on(kind: &str, shapes: &[Shape<Vertex>], less_audit: fn(f64) -> Beside)
     );
     let release_plain = time(
         TILES as usize,
-        || filled(shapes).1,
+        || filled_plain(shapes),
         |plain| {
             for tile in 0..TILES {
                 plain.release(black_box(tile));
             }
         },
     );
+    let named = |call: &str, rest: &str| edition.named(&format!("{call}, {kind}{rest}"));
     vec![
-        row(format!("bin, {kind}"), bin, Beside::Plain(bin_plain)),
-        row(format!("bin, {kind}, less its audit"), rest, less_audit(bin_plain)),
-        row(format!("audit, {kind}"), audit, Beside::Nothing),
-        row(format!("read, {kind}"), read, Beside::Plain(read_plain)),
-        row(format!("high_water, {kind}"), high_water, Beside::Nothing),
-        row(format!("release, {kind}"), release, Beside::Plain(release_plain)),
+        row(named("bin", ""), bin, Beside::Plain(bin_plain)),
+        row(named("bin", ", less its audit"), rest, less_audit(bin_plain)),
+        row(named("audit", ""), audit, Beside::Nothing),
+        row(named("read", ""), read, Beside::Plain(read_plain)),
+        row(named("high_water", ""), high_water, Beside::Nothing),
+        row(named("release", ""), release, Beside::Plain(release_plain)),
     ]
 }
 
-fn opening() -> Row {
-    let archive = time(
-        1,
-        || vec![1; room(SCREEN, BLOCKS).unwrap()],
-        |words| {
-            black_box(raw::open(words, SCREEN, BLOCKS));
-        },
-    );
+fn opening(edition: Edition) -> Row {
+    let archive = time(1, || edition.unopened(SCREEN, BLOCKS), |words| edition.open(words, SCREEN, BLOCKS));
     let plain = time(
         1,
         || (),
@@ -201,19 +245,34 @@ fn opening() -> Row {
             black_box(Plain::open(SCREEN));
         },
     );
-    row("open", archive, Beside::Plain(plain))
+    row(edition.named("open"), archive, Beside::Plain(plain))
+}
+
+const ONE_TILE: Screen = Screen { width: 8, height: 8, s: 3 };
+
+/// The read of the last of 1,953 entries, on a pool of one tile and as many blocks as that fills: 63, or 31 of 64 words.
+fn long_read(edition: Edition) -> Row {
+    const CALLS: usize = 1000;
+    const ENTRIES: u32 = 63 * 31;
+    let mut words = edition.opened(ONE_TILE, ENTRIES / edition.ids_of_block());
+    bin_all(&mut words, &vec![Shape::Point(Vertex { x: 1, y: 1 }); ENTRIES as usize]);
+    let read = time(
+        CALLS,
+        || (),
+        |()| {
+            for _ in 0..CALLS {
+                black_box(raw::read(&words, 0, black_box(ENTRIES - 1))).done().unwrap();
+            }
+        },
+    );
+    row(edition.named("read, the last of 1,953 entries in one tile"), read, Beside::Nothing)
 }
 
 /// The bin of a triangle off the screen, on a pool of one tile and no block: what a bin takes where there is next to nothing
 /// to audit, to walk or to list.
 fn least_bin() -> Row {
     const CALLS: usize = 100_000;
-    let screen = Screen { width: 8, height: 8, s: 3 };
-    let prepare = || {
-        let mut words = vec![0; room(screen, 0).unwrap()];
-        raw::open(&mut words, screen, 0).done().unwrap();
-        words
-    };
+    let prepare = || Edition::One.opened(ONE_TILE, 0);
     let shape = triangle([-14_405, -12_803], [-11_202, -10_411], [-10_254, -12_444]);
     let bin = time(CALLS, prepare, |words| {
         for _ in 0..CALLS {
@@ -260,9 +319,13 @@ fn snap(call: &str, unit: Unit) -> Row {
 }
 
 fn run() -> Vec<Row> {
-    let mut rows = vec![opening()];
-    rows.extend(calls_on("1,500 small shapes", &small(1500), Beside::PlainOfARange));
-    rows.extend(calls_on("31 screen-wide shapes", &wide(31), Beside::Plain));
+    let mut rows = Vec::new();
+    for edition in [Edition::One, Edition::Two(64)] {
+        rows.push(opening(edition));
+        rows.extend(calls_on(edition, "1,500 small shapes", &small(1500), Beside::PlainOfARange));
+        rows.extend(calls_on(edition, "31 screen-wide shapes", &wide(31), Beside::Plain));
+        rows.push(long_read(edition));
+    }
     rows.extend([least_bin(), snap("unit, a coordinate", Unit::HERE)]);
     rows.extend(Unit::OTHER.map(|unit| snap("unit, a coordinate, by the other archive", unit)));
     rows

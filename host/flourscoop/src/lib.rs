@@ -108,8 +108,18 @@ impl From<[u32; 2]> for Binned {
     }
 }
 
-/// The words that a pool needs, or the refusal that an opening of it gets for any slice.
+/// The words that a pool of edition one needs, or the refusal that an opening of it gets for any slice.
 pub fn room(screen: Screen, blocks: u32) -> Result<usize, Refusal> {
+    room_behind(8, screen, blocks, 32)
+}
+
+/// The same of edition two, in which a block has so many words.
+pub fn room_two(screen: Screen, blocks: u32, block_words: u32) -> Result<usize, Refusal> {
+    room_behind(10, screen, blocks, block_words)
+}
+
+/// The same of a pool whose header has so many words.
+fn room_behind(header: usize, screen: Screen, blocks: u32, block_words: u32) -> Result<usize, Refusal> {
     let Screen { width, height, s } = screen;
     if !(1..=4096).contains(&width) || !(1..=4096).contains(&height) || !(3..=6).contains(&s) {
         return Err(Refusal::Screen);
@@ -119,22 +129,45 @@ pub fn room(screen: Screen, blocks: u32) -> Result<usize, Refusal> {
     if tiles > 4096 {
         return Err(Refusal::Screen);
     }
-    if blocks > 2048 {
+    if blocks > 2048 || ![32, 64].contains(&block_words) {
         return Err(Refusal::Blocks);
     }
-    Ok(8 + 4 * tiles + 32 * blocks as usize)
+    Ok(header + 4 * tiles + (block_words * blocks) as usize)
 }
 
-/// A pool in words that the caller lends. Every call audits it first.
+/// A pool of either edition in words that the caller lends. Every call audits it first.
 #[derive(Debug)]
 pub struct Pool<'a> {
     words: &'a mut [u32],
 }
 
 impl<'a> Pool<'a> {
-    /// Opens a pool: all tiles empty, all marks 0, all blocks free. Words past the room needed stay as they are.
+    /// Opens a pool of edition one, in which a block holds 31 ids: all tiles empty, all marks 0, all blocks free. Words past
+    /// the room needed stay as they are.
     pub fn open(words: &'a mut [u32], screen: Screen, blocks: u32) -> Result<Pool<'a>, Refusal> {
         raw::open(words, screen, blocks).done()?;
+        Ok(Pool { words })
+    }
+
+    /// The same of edition two, in which a block has 32 or 64 words and holds 31 or 63 ids. Another size is refused as too
+    /// many blocks are.
+    ///
+    /// ```
+    /// use flourscoop::{room_two, Pool, Refusal, Screen, Shape, Vertex};
+    ///
+    /// let screen = Screen { width: 64, height: 32, s: 4 };
+    /// let mut words = vec![0; room_two(screen, 2, 64)?];
+    /// assert_eq!(Pool::open_two(&mut words, screen, 2, 48).err(), Some(Refusal::Blocks));
+    ///
+    /// let mut pool = Pool::open_two(&mut words, screen, 2, 64)?;
+    /// for id in 0..63 {
+    ///     pool.bin(id, Shape::Point(Vertex { x: 0, y: 0 }))?;
+    /// }
+    /// assert_eq!(pool.release(0)?, 1);
+    /// # Ok::<(), Refusal>(())
+    /// ```
+    pub fn open_two(words: &'a mut [u32], screen: Screen, blocks: u32, block_words: u32) -> Result<Pool<'a>, Refusal> {
+        raw::open_two(words, screen, blocks, block_words).done()?;
         Ok(Pool { words })
     }
 
@@ -166,8 +199,8 @@ impl<'a> Pool<'a> {
 
     /// A tile's mark: the most entries that its list had since the opening.
     ///
-    /// Where no call since then was refused for room, a pool for the same screen with as many blocks as the marks of all
-    /// tiles need, 31 entries to a block, gives each of these calls the same answer.
+    /// Where no call since then was refused for room, a pool of the same edition and block size for the same screen, with as
+    /// many blocks as the marks of all tiles need by the ids that a block holds, gives each of these calls the same answer.
     pub fn high_water(&self, tile: u32) -> Result<u32, Refusal> {
         raw::high_water(self.words, tile).done().map(|[entries]| entries)
     }

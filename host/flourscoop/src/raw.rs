@@ -6,6 +6,8 @@ use crate::{Pixel, Screen, Shape, Vertex};
 #[rustfmt::skip]
 extern "C" {
     fn flourscoop_open(pool: *mut u32, words: usize, width: u32, height: u32, s: u32, blocks: u32) -> u32;
+    fn flourscoop_open_two(pool: *mut u32, words: usize, width: u32, height: u32, s: u32, blocks: u32,
+        block_words: u32) -> u32;
     fn flourscoop_audit(pool: *const u32, words: usize) -> u32;
     fn flourscoop_read(pool: *const u32, words: usize, tile: u32, place: u32, id: *mut u32) -> u32;
     fn flourscoop_high_water(pool: *const u32, words: usize, tile: u32, entries: *mut u32) -> u32;
@@ -73,10 +75,16 @@ macro_rules! call {
     };
 }
 
-/// Opens a pool. Numbers: 0, 1, 2, 3.
+/// Opens a pool of edition one. Numbers: 0, 1, 2, 3.
 pub fn open(pool: &mut [u32], screen: Screen, blocks: u32) -> Answer<0> {
     let Screen { width, height, s } = screen;
     answer(|_| unsafe { flourscoop_open(pool.as_mut_ptr(), pool.len(), width, height, s, blocks) })
+}
+
+/// Opens a pool of edition two. Numbers: 0, 1, 2, 3.
+pub fn open_two(pool: &mut [u32], screen: Screen, blocks: u32, block_words: u32) -> Answer<0> {
+    let Screen { width, height, s } = screen;
+    answer(|_| unsafe { flourscoop_open_two(pool.as_mut_ptr(), pool.len(), width, height, s, blocks, block_words) })
 }
 
 /// Whether the pool is sound. Numbers: 0, 4.

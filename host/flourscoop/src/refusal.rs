@@ -32,7 +32,7 @@ macro_rules! refusals {
 
 refusals! {
     Screen 1 "the screen or s is outside the rules"
-    Blocks 2 "more than 2,048 blocks"
+    Blocks 2 "more than 2,048 blocks, or blocks of neither 32 nor 64 words"
     Short 3 "the slice is shorter than the room needed"
     Unsound 4 "the words are not a sound pool"
     Id 5 "the id is above 16,777,215"

@@ -1,9 +1,10 @@
-//! What document 01 says, with requests P2 and P8 of document 02, in plain Rust, for the archive to be held against.
+//! What document 01 says, with requests P2, P8 and P12 of document 02, in plain Rust, for the archive to be held against.
 //!
 //! It shares no code and no method with the library: touching is the question whether weights exist, answered by
 //! elimination; a unit is computed from the bits of the f32; a pool is a state with a vector for each list, from which
 //! all words are laid out anew; soundness is read off the words sentence by sentence.
 
+pub mod layout;
 pub mod marked;
 pub mod pool;
 mod runs;

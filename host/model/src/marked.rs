@@ -1,5 +1,6 @@
-//! The twelve marked cases, and cases where the screen ends inside its last tiles.
+//! The twelve marked cases, cases where the screen ends inside its last tiles, and the pool case in each layout.
 
+use crate::layout::{Layout, LAYOUTS};
 use crate::screen::Screen;
 use crate::Vertex;
 
@@ -95,4 +96,21 @@ pub const CUT: [Cut; 3] = [
             ),
         ],
     ),
+];
+
+/// The pool case in a layout, with two blocks: its words, and its header after the opening.
+pub struct PoolCase {
+    pub layout: Layout,
+    pub words: usize,
+    pub header: &'static [u32],
+}
+
+const fn pool_case(layout: Layout, words: usize, header: &'static [u32]) -> PoolCase {
+    PoolCase { layout, words, header }
+}
+
+pub const POOL_CASES: [PoolCase; 3] = [
+    pool_case(LAYOUTS[0], 104, &[64, 32, 4, 2, 2, 1, 8, 40]),
+    pool_case(LAYOUTS[1], 106, &[64, 32, 4, 2, 2, 1, 10, 42, 32, 0]),
+    pool_case(LAYOUTS[2], 170, &[64, 32, 4, 2, 2, 1, 10, 42, 64, 0]),
 ];

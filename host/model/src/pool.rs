@@ -3,39 +3,16 @@
 use std::collections::{BTreeMap, VecDeque};
 use std::fmt;
 
+use crate::layout::Layout;
 use crate::runs::Runs;
 use crate::screen::Screen;
 use crate::touch::{in_range, touched};
 use crate::unit::units;
 use crate::{number, Pixel, Vertex};
 
-pub const HEADER: usize = 8;
-pub const WORDS_OF_TILE: usize = 4;
-pub const WORDS_OF_BLOCK: usize = 32;
-pub const IDS_OF_BLOCK: usize = 31;
 pub const MOST_BLOCKS: u32 = 2048;
 pub const MOST_ID: u32 = 16_777_215;
 pub const POISON: u32 = 0xDEAD_BEEF;
-
-/// Where the words of a block start.
-pub fn block_at(screen: Screen, block: u32) -> usize {
-    HEADER + WORDS_OF_TILE * screen.tiles() as usize + WORDS_OF_BLOCK * block as usize
-}
-
-/// Where the words of a tile start.
-pub fn tile_at(tile: u32) -> usize {
-    HEADER + WORDS_OF_TILE * tile as usize
-}
-
-/// Where the mark of a tile stands.
-pub fn mark_at(tile: u32) -> usize {
-    tile_at(tile) + 3
-}
-
-/// The words that a pool needs.
-pub fn room(screen: Screen, blocks: u32) -> usize {
-    block_at(screen, blocks)
-}
 
 /// A tile: the blocks of its chain and the ids of its list, both in order, and its mark.
 #[derive(Clone, Default, PartialEq, Eq)]
@@ -56,6 +33,7 @@ impl fmt::Debug for Tile {
 /// What a sound pool says.
 #[derive(Clone, PartialEq, Eq)]
 pub struct State {
+    pub layout: Layout,
     pub screen: Screen,
     pub blocks: u32,
     /// the blocks of the free chain, in order
@@ -70,7 +48,7 @@ impl fmt::Debug for State {
         let tiles: BTreeMap<usize, &Tile> =
             self.tiles.iter().enumerate().filter(|(_, tile)| **tile != Tile::default()).collect();
         let mut state = f.debug_struct("State");
-        state.field("screen", &self.screen).field("blocks", &self.blocks);
+        state.field("layout", &self.layout).field("screen", &self.screen).field("blocks", &self.blocks);
         state.field("free", &Runs(&free)).field("tiles", &tiles).finish()
     }
 }
@@ -78,7 +56,7 @@ impl fmt::Debug for State {
 /// What in a slice is not as the sentences on soundness have it.
 #[derive(Clone, Copy, PartialEq, Eq, Debug)]
 pub enum Fault {
-    /// words 0 to 3, 6 or 7 are not as an accepted opening would write them
+    /// words 0 to 3, or those from word 6 to the end of the header, are not as an accepted opening would write them
     Header,
     /// the slice is not long enough
     Short,
@@ -105,74 +83,83 @@ fn link(block: Option<&u32>) -> u32 {
     block.map_or(0, |block| block + 1)
 }
 
-/// The blocks of the chain that starts with a link, up to link 0.
-fn follow(words: &[u32], screen: Screen, blocks: u32, first: u32) -> Result<Vec<u32>, Fault> {
-    let mut chain = Vec::new();
-    let mut link = first;
-    while link != 0 {
-        // a chain that is longer than all blocks comes back to one of its own
-        if link > blocks || chain.len() as u32 == blocks {
-            return Err(Fault::Link);
+/// Words that are read as a pool.
+struct Reading<'a> {
+    words: &'a [u32],
+    layout: Layout,
+    screen: Screen,
+    blocks: u32,
+}
+
+impl Reading<'_> {
+    /// The blocks of the chain that starts with a link, up to link 0.
+    fn chain(&self, first: u32) -> Result<Vec<u32>, Fault> {
+        let mut chain = Vec::new();
+        let mut link = first;
+        while link != 0 {
+            // a chain that is longer than all blocks comes back to one of its own
+            if link > self.blocks || chain.len() as u32 == self.blocks {
+                return Err(Fault::Link);
+            }
+            chain.push(link - 1);
+            link = self.words[self.layout.link_at(self.screen, link - 1)];
         }
-        chain.push(link - 1);
-        link = words[block_at(screen, link - 1) + IDS_OF_BLOCK];
+        Ok(chain)
     }
-    Ok(chain)
-}
 
-/// The id places of a chain, one block after the other.
-fn places(words: &[u32], screen: Screen, chain: impl IntoIterator<Item = u32>) -> Vec<u32> {
-    let ids = |block| {
-        let at = block_at(screen, block);
-        &words[at..at + IDS_OF_BLOCK]
-    };
-    chain.into_iter().flat_map(ids).copied().collect()
-}
+    /// The id places of a chain, one block after the other.
+    fn places(&self, chain: &[u32]) -> Vec<u32> {
+        let places = |&block| &self.words[self.layout.places_at(self.screen, block)];
+        chain.iter().flat_map(places).copied().collect()
+    }
 
-/// The tile that four words of the table say.
-fn read_tile(words: &[u32], screen: Screen, blocks: u32, tile: u32) -> Result<Tile, Fault> {
-    let at = tile_at(tile);
-    let entries = words[at] as usize;
-    let chain = follow(words, screen, blocks, words[at + 1])?;
-    if chain.len() != entries.div_ceil(IDS_OF_BLOCK) {
-        return Err(Fault::Entries);
+    /// The tile that four words of the table say.
+    fn tile(&self, tile: u32) -> Result<Tile, Fault> {
+        let ids_of_block = self.layout.ids_of_block();
+        let at = self.layout.tile_at(tile);
+        let entries = self.words[at] as usize;
+        let chain = self.chain(self.words[at + 1])?;
+        if chain.len() != entries.div_ceil(ids_of_block) {
+            return Err(Fault::Entries);
+        }
+        if self.words[at + 2] != link(chain.last()) {
+            return Err(Fault::Last);
+        }
+        let places = self.places(&chain);
+        let (ids, rest) = places.split_at(entries);
+        if ids.iter().any(|&id| id > MOST_ID) {
+            return Err(Fault::Id);
+        }
+        if rest.iter().any(|&word| word != POISON) {
+            return Err(Fault::Poison);
+        }
+        let mark = self.words[self.layout.mark_at(tile)];
+        if !(entries..=ids_of_block * self.blocks as usize).contains(&(mark as usize)) {
+            return Err(Fault::Mark);
+        }
+        Ok(Tile { blocks: chain, ids: ids.to_vec(), mark })
     }
-    if words[at + 2] != link(chain.last()) {
-        return Err(Fault::Last);
-    }
-    let places = places(words, screen, chain.iter().copied());
-    let (ids, rest) = places.split_at(entries);
-    if ids.iter().any(|&id| id > MOST_ID) {
-        return Err(Fault::Id);
-    }
-    if rest.iter().any(|&word| word != POISON) {
-        return Err(Fault::Poison);
-    }
-    let mark = words[mark_at(tile)];
-    if !(entries..=IDS_OF_BLOCK * blocks as usize).contains(&(mark as usize)) {
-        return Err(Fault::Mark);
-    }
-    Ok(Tile { blocks: chain, ids: ids.to_vec(), mark })
 }
 
 impl State {
     /// The state of a pool that was just opened.
-    pub fn opened(screen: Screen, blocks: u32) -> State {
-        State { screen, blocks, free: (0..blocks).collect(), tiles: vec![Tile::default(); screen.tiles() as usize] }
+    pub fn opened(layout: Layout, screen: Screen, blocks: u32) -> State {
+        let tiles = vec![Tile::default(); screen.tiles() as usize];
+        State { layout, screen, blocks, free: (0..blocks).collect(), tiles }
     }
 
-    /// What `open` answers of a slice with so many words: the state, or the number of the refusal.
-    pub fn open(words: usize, screen: Screen, blocks: u32) -> Result<State, u32> {
+    /// What the opening of a layout answers of a slice with so many words: the state, or the number of the refusal.
+    pub fn open(words: usize, layout: Layout, screen: Screen, blocks: u32) -> Result<State, u32> {
         if !screen.allowed() {
             return Err(number::SCREEN);
         }
-        if blocks > MOST_BLOCKS {
+        if blocks > MOST_BLOCKS || !layout.allowed() {
             return Err(number::BLOCKS);
         }
-        if words < room(screen, blocks) {
+        if words < layout.room(screen, blocks) {
             return Err(number::SHORT);
         }
-        Ok(State::opened(screen, blocks))
+        Ok(State::opened(layout, screen, blocks))
     }
 
     /// How many blocks the longest chain of a tile has.
@@ -184,11 +171,11 @@ impl State {
     pub fn words(&self) -> Vec<u32> {
         let Screen { width, height, s } = self.screen;
         let mut words = vec![width, height, s, self.blocks, self.free.len() as u32, link(self.free.front())];
-        words.extend([HEADER as u32, block_at(self.screen, 0) as u32]);
+        words.extend(self.layout.from_word_6(self.screen));
         for tile in &self.tiles {
             words.extend([tile.ids.len() as u32, link(tile.blocks.first()), link(tile.blocks.last()), tile.mark]);
         }
-        words.resize(room(self.screen, self.blocks), POISON);
+        words.resize(self.layout.room(self.screen, self.blocks), POISON);
         let free: Vec<u32> = self.free.iter().copied().collect();
         self.write_chain(&mut words, &free, &[]);
         for tile in &self.tiles {
@@ -200,29 +187,29 @@ impl State {
     /// Writes the ids and the links of a chain.
     fn write_chain(&self, words: &mut [u32], chain: &[u32], ids: &[u32]) {
         for (k, &block) in chain.iter().enumerate() {
-            words[block_at(self.screen, block) + IDS_OF_BLOCK] = link(chain.get(k + 1));
+            words[self.layout.link_at(self.screen, block)] = link(chain.get(k + 1));
         }
-        for (place, &id) in ids.iter().enumerate() {
-            words[block_at(self.screen, chain[place / IDS_OF_BLOCK]) + place % IDS_OF_BLOCK] = id;
+        for (&block, ids) in chain.iter().zip(ids.chunks(self.layout.ids_of_block())) {
+            words[self.layout.places_at(self.screen, block)][..ids.len()].copy_from_slice(ids);
         }
     }
 
     /// The state that a slice says, where it is a sound pool.
     pub fn read(words: &[u32]) -> Result<State, Fault> {
-        let &[width, height, s, blocks, free_count, free_first, table, start, ..] = words else {
+        let &[width, height, s, blocks, free_count, free_first, _, _, ..] = words else {
             return Err(Fault::Short);
         };
         let screen = Screen { width, height, s };
-        if !screen.allowed() || blocks > MOST_BLOCKS || table != HEADER as u32 || start != block_at(screen, 0) as u32 {
+        let layout = Layout::of(words).filter(|layout| layout.allowed()).ok_or(Fault::Header)?;
+        if !screen.allowed() || blocks > MOST_BLOCKS || !words[6..].starts_with(&layout.from_word_6(screen)) {
             return Err(Fault::Header);
         }
-        if words.len() < room(screen, blocks) {
+        if words.len() < layout.room(screen, blocks) {
             return Err(Fault::Short);
         }
-        let tiles = (0..screen.tiles())
-            .map(|tile| read_tile(words, screen, blocks, tile))
-            .collect::<Result<Vec<Tile>, Fault>>()?;
-        let free = follow(words, screen, blocks, free_first)?;
+        let reading = Reading { words, layout, screen, blocks };
+        let tiles = (0..screen.tiles()).map(|tile| reading.tile(tile)).collect::<Result<Vec<Tile>, Fault>>()?;
+        let free = reading.chain(free_first)?;
         if free.len() as u32 != free_count {
             return Err(Fault::Free);
         }
@@ -231,10 +218,10 @@ impl State {
         if !standing.into_iter().eq(0..blocks) {
             return Err(Fault::Once);
         }
-        if places(words, screen, free.iter().copied()).iter().any(|&word| word != POISON) {
+        if reading.places(&free).iter().any(|&word| word != POISON) {
             return Err(Fault::Poison);
         }
-        Ok(State { screen, blocks, free: free.into(), tiles })
+        Ok(State { layout, screen, blocks, free: free.into(), tiles })
     }
 
     /// Tiles listed and blocks taken, or the number of the refusal, which changes nothing.
@@ -246,14 +233,15 @@ impl State {
             return Err(number::OUT_OF_RANGE);
         }
         let touched = touched(self.screen, shape);
-        let takes_block = |tile: &&u32| self.tiles[**tile as usize].ids.len() % IDS_OF_BLOCK == 0;
-        let need = touched.iter().filter(takes_block).count();
+        let ids_of_block = self.layout.ids_of_block();
+        let takes_block = |tile: &Tile| tile.ids.len() % ids_of_block == 0;
+        let need = touched.iter().filter(|&&tile| takes_block(&self.tiles[tile as usize])).count();
         if need > self.free.len() {
             return Err(number::NO_ROOM);
         }
         for &number in &touched {
             let tile = &mut self.tiles[number as usize];
-            if tile.ids.len() % IDS_OF_BLOCK == 0 {
+            if takes_block(tile) {
                 tile.blocks.extend(self.free.pop_front());
             }
             tile.ids.push(id);

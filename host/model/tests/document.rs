@@ -1,8 +1,9 @@
-//! The model gives what document 01 and requests P2 and P8 list.
+//! The model gives what document 01 and requests P2, P8 and P12 list.
 
-use model::marked::{Cut, Marked, CUT, MARKED, SCREEN};
+use model::layout::{Layout, LAYOUTS};
+use model::marked::{Cut, Marked, PoolCase, CUT, MARKED, POOL_CASES, SCREEN};
 use model::number;
-use model::pool::{State, POISON};
+use model::pool::{Fault, State, POISON};
 use model::screen::Screen;
 use model::touch::{box_meets, touched};
 use model::unit::{unit, TABLE};
@@ -40,32 +41,70 @@ fn units_of_the_table() {
 }
 
 #[test]
-fn pool_case() {
-    let mut pool = State::open(104, SCREEN, 2).unwrap();
-    let mut opened = pool.words();
-    assert_eq!(opened[..8], [64, 32, 4, 2, 2, 1, 8, 40]);
-    assert_eq!(opened[8..40], [0; 32]);
-    assert_eq!((opened.len(), opened[40], opened[71], opened[103]), (104, POISON, 2, 0));
+fn pool_cases() {
+    for PoolCase { layout, words, header } in POOL_CASES {
+        let mut pool = State::open(words, layout, SCREEN, 2).unwrap();
+        let mut opened = pool.words();
+        let (tile_0, [block_0, block_1]) = (header.len(), [0, 1].map(|block| layout.block_at(SCREEN, block)));
+        assert_eq!((opened.len(), &opened[..tile_0]), (words, header));
+        assert_eq!(opened[tile_0..block_0], [0; 32]);
+        assert_eq!((opened[block_0], opened[block_1 - 1], opened[words - 1]), (POISON, 2, 0));
 
-    assert_eq!(pool.bin(7, &[[0, 0]]), Ok([1, 1]));
-    let binned = pool.words();
-    assert_eq!((binned[4], binned[5], &binned[8..12], binned[40]), (1, 2, &[1, 1, 1, 1][..], 7));
-    assert_eq!(pool.bin(9, &[[256, 256]]), Err(number::NO_ROOM));
-    assert_eq!(pool.words(), binned);
-    assert_eq!(State::read(&binned), Ok(pool.clone()));
+        assert_eq!(pool.bin(7, &[[0, 0]]), Ok([1, 1]));
+        let binned = pool.words();
+        assert_eq!((&binned[4..6], &binned[tile_0..tile_0 + 4], binned[block_0]), (&[1, 2][..], &[1; 4][..], 7));
+        assert_eq!(pool.bin(9, &[[256, 256]]), Err(number::NO_ROOM));
+        assert_eq!(pool.words(), binned);
+        assert_eq!(State::read(&binned), Ok(pool.clone()));
 
-    assert_eq!(pool.release(0), Ok(1));
-    assert_eq!([0, 1, 8].map(|tile| pool.high_water(tile)), [Ok(1), Ok(0), Err(number::NO_TILE)]);
-    // the mark of tile 0
-    opened[11] = 1;
-    assert_eq!(pool.words(), opened);
+        assert_eq!(pool.release(0), Ok(1));
+        assert_eq!([0, 1, 8].map(|tile| pool.high_water(tile)), [Ok(1), Ok(0), Err(number::NO_TILE)]);
+        opened[layout.mark_at(0)] = 1;
+        assert_eq!(pool.words(), opened);
+    }
+}
+
+#[test]
+fn a_block_holds_all_its_words_but_the_last() {
+    for (layout, ids) in LAYOUTS.into_iter().zip([31, 31, 63]) {
+        let mut pool = State::opened(layout, SCREEN, 3);
+        for entries in 0..2 * ids + 1 {
+            assert_eq!(pool.bin(entries, &[[0, 0]]), Ok([1, u32::from(entries % ids == 0)]), "{layout:?}, {entries}");
+        }
+        assert_eq!(pool.tiles[0].blocks, [0, 1, 2]);
+        assert_eq!(State::read(&pool.words()), Ok(pool));
+    }
+}
+
+#[test]
+fn word_6_tells_the_editions_apart() {
+    let with = |layout, place, value| {
+        let mut words = State::opened(layout, SCREEN, 2).words();
+        words[place] = value;
+        State::read(&words)
+    };
+    assert_eq!(with(Layout::One, 6, 10), Err(Fault::Header));
+    for layout in [LAYOUTS[1], LAYOUTS[2]] {
+        assert_eq!(with(layout, 6, 10), Ok(State::opened(layout, SCREEN, 2)));
+        for (place, value) in [(6, 8), (6, 9), (8, 0), (8, 31), (8, 48), (8, 65), (9, 1), (9, u32::MAX)] {
+            assert_eq!(with(layout, place, value), Err(Fault::Header), "{layout:?}, word {place} is {value}");
+        }
+    }
 }
 
 #[test]
 fn open_refuses_in_order() {
     let wide = Screen { width: 4096, height: 4096, s: 5 };
-    assert_eq!(State::open(0, wide, 2049), Err(number::SCREEN));
-    assert_eq!(State::open(0, SCREEN, 2049), Err(number::BLOCKS));
-    assert_eq!(State::open(103, SCREEN, 2), Err(number::SHORT));
-    assert!(State::open(16_392 + 65_536, Screen { s: 6, ..wide }, 2048).is_ok());
+    for (layout, largest) in LAYOUTS.into_iter().zip([81_928, 81_930, 147_466]) {
+        assert_eq!(State::open(0, layout, wide, 2049), Err(number::SCREEN));
+        assert_eq!(State::open(0, layout, SCREEN, 2049), Err(number::BLOCKS));
+        assert_eq!(State::open(103, layout, SCREEN, 2), Err(number::SHORT));
+        let open = |words| State::open(words, layout, Screen { s: 6, ..wide }, 2048);
+        assert_eq!((open(largest - 1), open(largest).is_ok()), (Err(number::SHORT), true));
+    }
+    for block_words in [0, 31, 33, 48, 63, 65, 128, u32::MAX] {
+        let layout = Layout::Two { block_words };
+        assert_eq!(State::open(0, layout, wide, 2), Err(number::SCREEN));
+        assert_eq!(State::open(0, layout, SCREEN, 0), Err(number::BLOCKS));
+    }
 }

@@ -1,5 +1,6 @@
 //! Makes the calls of a list in a pool, and tells how many blocks a pool for them needs. `planner --help` has the rest.
 
+mod opening;
 mod parse;
 mod run;
 mod table;

@@ -4,6 +4,8 @@ use std::str::FromStr;
 
 use flourscoop::{Pixel, Screen, Shape, Vertex};
 
+use crate::opening::Opening;
+
 /// A call after the opening.
 pub enum Call {
     Bin(u32, Shape<Vertex>),
@@ -14,8 +16,7 @@ pub enum Call {
 /// A list of calls: the opening with its line, and the others, each with its line.
 pub struct List {
     pub line: usize,
-    pub screen: Screen,
-    pub blocks: u32,
+    pub opening: Opening,
     pub calls: Vec<(usize, Call)>,
 }
 
@@ -62,20 +63,23 @@ fn shape<N: Number, V: Copy>(words: &[&str], vertex: fn(N, N) -> V) -> Result<(u
 
 fn call(words: &[&str]) -> Result<Call, String> {
     match words {
-        ["open", ..] => Err("open stands first, and once".into()),
+        ["open" | "open_two", ..] => Err(format!("{} stands first, and once", words[0])),
         ["release", tile @ ..] => Ok(Call::Release(numbers(tile, 1, "release takes a tile")?[0])),
         ["pixels", words @ ..] => shape(words, |x, y| Pixel { x, y }).map(|(id, shape)| Call::BinPixels(id, shape)),
         _ => shape(words, |x, y| Vertex { x, y }).map(|(id, shape)| Call::Bin(id, shape)),
     }
 }
 
-/// The screen and the blocks of an opening.
-fn opening(words: &[&str]) -> Result<(Screen, u32), String> {
-    let ["open", sizes @ ..] = words else {
-        return Err("a list begins with open".into());
+fn opening(words: &[&str]) -> Result<Opening, String> {
+    let sizes: Vec<u32> = match words {
+        ["open", sizes @ ..] => numbers(sizes, 4, "open takes width, height, s and blocks")?,
+        ["open_two", sizes @ ..] => {
+            numbers(sizes, 5, "open_two takes width, height, s, blocks and the words per block")?
+        }
+        _ => return Err("a list begins with open or open_two".into()),
     };
-    let sizes = numbers(sizes, 4, "open takes width, height, s and blocks")?;
-    Ok((Screen { width: sizes[0], height: sizes[1], s: sizes[2] }, sizes[3]))
+    let screen = Screen { width: sizes[0], height: sizes[1], s: sizes[2] };
+    Ok(Opening { screen, blocks: sizes[3], block_words: sizes.get(4).copied() })
 }
 
 /// The list that a text says, or which line is wrong and why.
@@ -83,8 +87,8 @@ pub fn list(text: &str) -> Result<List, String> {
     let lines = text.lines().map(|line| line.split_whitespace().collect::<Vec<_>>());
     let mut lines = (1..).zip(lines).filter(|(_, words)| words.first().is_some_and(|word| !word.starts_with('#')));
     let wrong_in = |line: usize| move |why: String| format!("line {line}: {why}");
-    let (line, words) = lines.next().ok_or("the list is empty; it begins with open")?;
-    let (screen, blocks) = opening(&words).map_err(wrong_in(line))?;
+    let (line, words) = lines.next().ok_or("the list is empty; it begins with open or open_two")?;
+    let opening = opening(&words).map_err(wrong_in(line))?;
     let calls = lines.map(|(line, words)| Ok((line, call(&words).map_err(wrong_in(line))?)));
-    Ok(List { line, screen, blocks, calls: calls.collect::<Result<_, String>>()? })
+    Ok(List { line, opening, calls: calls.collect::<Result<_, String>>()? })
 }

@@ -1,23 +1,16 @@
 //! Makes the calls of a list.
 
-use flourscoop::{room, Pool, Refusal};
+use flourscoop::{Pool, Refusal};
 
 use crate::parse::{Call, List};
-
-const IDS_OF_BLOCK: u32 = 31;
 
 /// A tile that had an entry.
 pub struct Tile {
     pub number: u32,
     pub entries: u32,
     pub mark: u32,
-}
-
-impl Tile {
-    /// The blocks that as many entries as the mark need.
-    pub fn blocks(&self) -> u32 {
-        self.mark.div_ceil(IDS_OF_BLOCK)
-    }
+    /// the blocks that as many entries as the mark need
+    pub blocks: u32,
 }
 
 /// What the calls of a list did.
@@ -36,18 +29,21 @@ impl Made {
     }
 }
 
-/// The tiles of a pool that had an entry.
-fn tiles(pool: &Pool) -> Vec<Tile> {
+/// The tiles that had an entry, of a pool whose blocks hold so many each.
+fn tiles(pool: &Pool, ids_of_block: u32) -> Vec<Tile> {
     // the first word of a tile, as the C header has it
-    let entries = |tile: u32| pool.words()[8 + 4 * tile as usize];
-    let marks = (0..).map_while(|tile| Some((tile, pool.high_water(tile).ok()?)));
-    marks.filter(|&(_, mark)| mark > 0).map(|(number, mark)| Tile { number, entries: entries(number), mark }).collect()
+    let entries = |tile: u32| pool.words()[(pool.words()[6] + 4 * tile) as usize];
+    let tile = |number: u32| {
+        let mark = pool.high_water(number).ok()?;
+        Some(Tile { number, entries: entries(number), mark, blocks: mark.div_ceil(ids_of_block) })
+    };
+    (0..).map_while(tile).filter(|tile| tile.mark > 0).collect()
 }
 
 /// What the calls did, or why the opening was refused.
 pub fn run(list: &List) -> Result<Made, Refusal> {
-    let mut words = vec![0; room(list.screen, list.blocks)?];
-    let mut pool = Pool::open(&mut words, list.screen, list.blocks)?;
+    let mut words = vec![0; list.opening.room(list.opening.blocks)?];
+    let mut pool = list.opening.open(&mut words)?;
     let (mut in_use, mut at_once, mut refused) = (0, 0, Vec::new());
     for (line, call) in &list.calls {
         let done = match *call {
@@ -58,5 +54,5 @@ pub fn run(list: &List) -> Result<Made, Refusal> {
         refused.extend(done.err().map(|refusal| (*line, refusal)));
         at_once = at_once.max(in_use);
     }
-    Ok(Made { tiles: tiles(&pool), at_once, refused })
+    Ok(Made { tiles: tiles(&pool, list.opening.ids_of_block()), at_once, refused })
 }

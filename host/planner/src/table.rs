@@ -2,8 +2,7 @@
 
 use std::fmt::Display;
 
-use flourscoop::room;
-
+use crate::opening::Opening;
 use crate::parse::List;
 use crate::run::{Made, Tile};
 
@@ -16,26 +15,26 @@ fn row(cells: [&dyn Display; 4]) -> String {
 fn rows(tiles: &[Tile]) -> Vec<String> {
     let sum = |of: fn(&Tile) -> u32| tiles.iter().map(of).sum::<u32>();
     let mut rows = vec![row([&"tile", &"entries", &"mark", &"blocks"])];
-    rows.extend(tiles.iter().map(|tile| row([&tile.number, &tile.entries, &tile.mark, &tile.blocks()])));
-    rows.push(row([&"sum", &sum(|tile| tile.entries), &sum(|tile| tile.mark), &sum(Tile::blocks)]));
+    rows.extend(tiles.iter().map(|tile| row([&tile.number, &tile.entries, &tile.mark, &tile.blocks])));
+    rows.push(row([&"sum", &sum(|tile| tile.entries), &sum(|tile| tile.mark), &sum(|tile| tile.blocks)]));
     rows
 }
 
 /// A number of blocks, and the words of a pool that has so many.
-fn pool(list: &List, blocks: u32) -> String {
-    match room(list.screen, blocks) {
+fn pool(opening: &Opening, blocks: u32) -> String {
+    match opening.room(blocks) {
         Ok(words) => format!("{blocks}, in a pool of {words} words"),
         Err(_) => format!("{blocks}, which are more than a pool can have"),
     }
 }
 
 /// Whether the blocks are enough.
-fn verdict(list: &List, made: &Made) -> String {
+fn verdict(opening: &Opening, made: &Made) -> String {
     if made.for_room() == 0 {
         return "A pool with so many blocks, by either line, gives every call the same answer.".into();
     }
-    let more = match room(list.screen, list.blocks + 1) {
-        Ok(_) => format!("Run the list with more than {} blocks.", list.blocks),
+    let more = match opening.room(opening.blocks + 1) {
+        Ok(_) => format!("Run the list with more than {} blocks.", opening.blocks),
         Err(_) => "No pool has more blocks than this one: release earlier, or take larger tiles.".into(),
     };
     format!("NOT ENOUGH: the marks do not count a call that is refused for room. {more}")
@@ -49,9 +48,10 @@ pub fn text(list: &List, made: &Made) -> String {
     }
     lines.extend(rows(&made.tiles));
     lines.push(String::new());
-    lines.push(format!("blocks by the marks: {}", pool(list, made.tiles.iter().map(Tile::blocks).sum())));
-    lines.push(format!("blocks in use at once, at most: {}", pool(list, made.at_once)));
+    let by_marks = made.tiles.iter().map(|tile| tile.blocks).sum();
+    lines.push(format!("blocks by the marks: {}", pool(&list.opening, by_marks)));
+    lines.push(format!("blocks in use at once, at most: {}", pool(&list.opening, made.at_once)));
     lines.push(format!("calls refused: {}, of these for room: {}", made.refused.len(), made.for_room()));
-    lines.push(verdict(list, made));
+    lines.push(verdict(&list.opening, made));
     lines.join("\n") + "\n"
 }

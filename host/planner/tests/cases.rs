@@ -59,6 +59,11 @@ fn printed(output: &str, words: &str) -> u32 {
     rest.split(',').next().unwrap().trim().parse().unwrap()
 }
 
+/// The line of a list that opens the pool.
+fn opening(list: &str) -> &str {
+    list.lines().find(|line| line.starts_with("open")).unwrap()
+}
+
 /// The rows of the table.
 fn table(output: &str) -> Vec<&str> {
     output.lines().skip_while(|line| !line.starts_with("tile")).take_while(|line| !line.is_empty()).collect()
@@ -67,7 +72,7 @@ fn table(output: &str) -> Vec<&str> {
 #[test]
 fn stored_lists_print_what_stands_beside_them() {
     let lists = stored("out");
-    assert!(lists.len() >= 4);
+    assert!(lists.len() >= 6);
     for (name, list, output) in lists {
         let status = Some(i32::from(output.contains("refused with 8")));
         assert_eq!(plan(list), Ended { status, output, said: String::new() }, "{name}");
@@ -77,7 +82,7 @@ fn stored_lists_print_what_stands_beside_them() {
 #[test]
 fn stored_lists_that_are_not_run_say_why() {
     let lists = stored("err");
-    assert!(lists.len() >= 5);
+    assert!(lists.len() >= 6);
     for (name, list, said) in lists {
         assert_eq!(plan(list), Ended { status: Some(2), output: String::new(), said }, "{name}");
     }
@@ -92,9 +97,10 @@ fn as_many_blocks_as_are_told_are_enough() {
             continue;
         }
         let with_blocks = |blocks: u32| {
-            let opening = list.lines().find(|line| line.starts_with("open")).unwrap();
-            let (sizes, _) = opening.rsplit_once(' ').unwrap();
-            plan(list.replace(opening, &format!("{sizes} {blocks}")))
+            let (opening, blocks) = (opening(&list), blocks.to_string());
+            let mut words: Vec<&str> = opening.split(' ').collect();
+            words[4] = &blocks;
+            plan(list.replace(opening, &words.join(" ")))
         };
         let by_marks = printed(&output, "blocks by the marks:");
         let at_once = printed(&output, "blocks in use at once, at most:");
@@ -105,6 +111,24 @@ fn as_many_blocks_as_are_told_are_enough() {
         if at_once > 0 {
             assert_eq!(with_blocks(at_once - 1).status, Some(1), "{name} with {} blocks", at_once - 1);
         }
+    }
+}
+
+/// With 32 words to a block a list tells the same in edition two as in edition one, but for the header's two words more.
+#[test]
+fn a_block_of_32_words_holds_as_many_in_either_edition() {
+    let two_words_more = |line: &str| match line.split_once(", in a pool of ") {
+        Some((blocks, words)) => {
+            let words: u32 = words.strip_suffix(" words").unwrap().parse().unwrap();
+            format!("{blocks}, in a pool of {} words\n", words + 2)
+        }
+        None => format!("{line}\n"),
+    };
+    let in_edition_one = |(_, list, _): &(String, String, String)| opening(list).starts_with("open ");
+    for (name, list, output) in stored("out").into_iter().filter(in_edition_one) {
+        let opening = opening(&list);
+        let ended = plan(list.replace(opening, &format!("{} 32", opening.replace("open", "open_two"))));
+        assert_eq!(ended.output, output.lines().map(two_words_more).collect::<String>(), "{name}");
     }
 }
 
@@ -138,6 +162,7 @@ fn a_line_that_is_no_call_is_told() {
         ("release 0 1", "release takes a tile".into()),
         ("release -1", format!("\"-1\" {count}")),
         ("open 64 32 4 2", "open stands first, and once".into()),
+        ("open_two 64 32 4 2 64", "open_two stands first, and once".into()),
         ("point 7 0 \u{7}\u{fffd}", format!("\"\\u{{7}}\u{fffd}\" {unit}")),
     ];
     for (line, why) in lines {
@@ -150,6 +175,10 @@ fn a_line_that_is_no_call_is_told() {
         ("open 64 32 4 2 1", "open takes width, height, s and blocks".into()),
         ("open 64 32 4 two", format!("\"two\" {count}")),
         ("open 64 -32 4 2", format!("\"-32\" {count}")),
+        ("open_two 64 32 4 2", "open_two takes width, height, s, blocks and the words per block".into()),
+        ("open_two 64 32 4 2 64 1", "open_two takes width, height, s, blocks and the words per block".into()),
+        ("open_two 64 32 4 2 -64", format!("\"-64\" {count}")),
+        ("open_three 64 32 4 2 64", "a list begins with open or open_two".into()),
     ] {
         assert_eq!(plan(format!("\n{line}\npoint 1 0 0\n")), not_run(&format!("line 2: {why}")), "{line}");
     }
@@ -166,15 +195,19 @@ fn lines_may_end_and_be_spaced_as_they_like() {
 /// A triangle takes 2,048 blocks; one of them is given back, and a 2,049th tile takes it.
 #[test]
 fn marks_may_ask_for_more_than_a_pool_can_have() {
-    let half = "open 512 512 3 2048\ntriangle 1 -262144 4095 262143 4095 0 -262144\n";
-    let ended = plan(format!("{half}release 0\npoint 2 8190 8190\n"));
-    assert_eq!(ended.status, Some(0));
-    assert!(ended.output.contains("blocks by the marks: 2049, which are more than a pool can have\n"));
-    assert!(ended.output.contains("blocks in use at once, at most: 2048, in a pool of 81928 words\n"));
+    for (opening, words) in [("open 512 512 3 2048", 81_928), ("open_two 512 512 3 2048 64", 147_466)] {
+        let half = format!("{opening}\ntriangle 1 -262144 4095 262143 4095 0 -262144\n");
+        let ended = plan(format!("{half}release 0\npoint 2 8190 8190\n"));
+        assert_eq!(ended.status, Some(0));
+        assert!(ended.output.contains("blocks by the marks: 2049, which are more than a pool can have\n"));
+        let at_once = format!("blocks in use at once, at most: 2048, in a pool of {words} words\n");
+        assert!(ended.output.contains(&at_once), "{}", ended.output);
 
-    let ended = plan(format!("{half}point 2 8190 8190\n"));
-    assert_eq!(ended.status, Some(1));
-    assert!(ended.output.ends_with(" No pool has more blocks than this one: release earlier, or take larger tiles.\n"));
+        let ended = plan(format!("{half}point 2 8190 8190\n"));
+        assert_eq!(ended.status, Some(1));
+        let advice = " No pool has more blocks than this one: release earlier, or take larger tiles.\n";
+        assert!(ended.output.ends_with(advice), "{}", ended.output);
+    }
 }
 
 #[test]
@@ -190,8 +223,15 @@ fn help_is_told_and_other_words_are_not_taken() {
     let with = |word: &OsStr| end(start(Some(word), Stdio::piped()), b"");
     let help = with(OsStr::new("--help"));
     assert_eq!((help.status, help.said.as_str()), (Some(0), ""));
-    for call in ["open WIDTH HEIGHT S BLOCKS", "point ID", "line ID", "triangle ID", "pixels point ID", "release TILE"]
-    {
+    for call in [
+        "open WIDTH HEIGHT S BLOCKS",
+        "open_two WIDTH HEIGHT S BLOCKS WORDS",
+        "point ID",
+        "line ID",
+        "triangle ID",
+        "pixels point ID",
+        "release TILE",
+    ] {
         assert!(help.output.contains(call), "{call}");
     }
     let ended = with(&OsString::from_vec(b"list\xff".to_vec()));

@@ -2,7 +2,8 @@
 
 use flourscoop::raw::{self, Answer};
 use flourscoop::Shape;
-use model::pool::{room, State};
+use model::layout::{Layout, LAYOUTS};
+use model::pool::State;
 use model::screen::Screen;
 use model::touch::{box_meets, question, touches};
 use model::{number, Pixel, Vertex};
@@ -14,7 +15,7 @@ use crate::smaller;
 /// A call on a pool.
 #[derive(Clone, PartialEq, Eq, Debug)]
 pub enum Call {
-    Open { screen: Screen, blocks: Blocks },
+    Open { layout: Layout, screen: Screen, blocks: Blocks },
     Audit,
     Bin { id: u32, shape: Vec<Vertex> },
     BinPixels { id: u32, shape: Vec<Pixel> },
@@ -43,8 +44,8 @@ impl Blocks {
 pub type Outcome = [u32; 3];
 
 impl Call {
-    /// A call on a pool with this screen, at a tile of it.
-    pub fn make(random: &Random, screen: Screen) -> Call {
+    /// A call on a pool with this layout and screen, at a tile of it.
+    pub fn make(random: &Random, layout: Layout, screen: Screen) -> Call {
         let tile = generate::tile(random, screen);
         let other = random.pick(&[tile, tile, tile, tile, tile, tile, screen.tiles(), u32::MAX]);
         match random.below(21) {
@@ -60,16 +61,18 @@ impl Call {
             15..=17 => Call::Release { tile: other },
             18 => Call::HighWater { tile: other },
             19 => Call::Audit,
-            _ => random
-                .pick(&[
+            _ => {
+                let another = random.pick(&[random.pick(&LAYOUTS), generate::bad_layout(random)]);
+                let (screen, blocks) = random.pick(&[
                     (screen, Blocks::Own),
                     (generate::bad_screen(random), Blocks::Own),
                     (generate::bad_screen(random), Blocks::These(2049)),
                     (screen, Blocks::These(2049)),
                     (screen, Blocks::These(u32::MAX)),
                     (screen, Blocks::These(2048)),
-                ])
-                .into(),
+                ]);
+                Call::Open { layout: random.pick(&[layout, another]), screen, blocks }
+            }
         }
     }
 
@@ -145,12 +148,6 @@ impl Repeated {
     }
 }
 
-impl From<(Screen, Blocks)> for Call {
-    fn from((screen, blocks): (Screen, Blocks)) -> Call {
-        Call::Open { screen, blocks }
-    }
-}
-
 /// A shape at a tile, out of range once in a while.
 fn shape(random: &Random, screen: Screen, tile: u32) -> Vec<Vertex> {
     let shape = generate::shape(random, screen, tile);
@@ -176,6 +173,14 @@ pub fn shape_of(shape: &[Vertex]) -> Shape<flourscoop::Vertex> {
 pub fn pixels_of(shape: &[Pixel]) -> Shape<flourscoop::Pixel> {
     let pixel = |&[x, y]: &Pixel| flourscoop::Pixel { x: f32::from_bits(x), y: f32::from_bits(y) };
     Shape::of(&shape.iter().map(pixel).collect::<Vec<_>>()).unwrap()
+}
+
+/// Opens a pool on the archive, by the call of its edition.
+pub fn open(words: &mut [u32], layout: Layout, screen: Screen, blocks: u32) -> Answer<0> {
+    match layout {
+        Layout::One => raw::open(words, screen_of(screen), blocks),
+        Layout::Two { block_words } => raw::open_two(words, screen_of(screen), blocks, block_words),
+    }
 }
 
 fn outcome<const VALUES: usize>(answer: Answer<VALUES>) -> Outcome {
@@ -233,7 +238,7 @@ impl Slot {
     pub fn on_archive(&mut self, call: &Call) -> Outcome {
         let words = &mut self.words[..];
         match call {
-            &Call::Open { screen, blocks } => outcome(raw::open(words, screen_of(screen), blocks.count(self.blocks))),
+            &Call::Open { layout, screen, blocks } => outcome(open(words, layout, screen, blocks.count(self.blocks))),
             Call::Audit => outcome(raw::audit(words)),
             Call::Bin { id, shape } => outcome(raw::bin(words, *id, shape_of(shape))),
             Call::BinPixels { id, shape } => outcome(raw::bin_pixels(words, *id, pixels_of(shape))),
@@ -244,8 +249,8 @@ impl Slot {
     }
 
     fn on_model(&mut self, call: &Call) -> Outcome {
-        if let &Call::Open { screen, blocks } = call {
-            let opened = State::open(self.words.len(), screen, blocks.count(self.blocks));
+        if let &Call::Open { layout, screen, blocks } = call {
+            let opened = State::open(self.words.len(), layout, screen, blocks.count(self.blocks));
             let answer = opened.map(|state| {
                 self.state = Some(state);
                 []
@@ -269,7 +274,8 @@ impl Slot {
     pub fn call(&mut self, call: &Call) -> Result<Outcome, String> {
         let (archive, model) = (self.on_archive(call), self.on_model(call));
         if let Some(state) = &self.state {
-            self.expected[..room(state.screen, state.blocks)].copy_from_slice(&state.words());
+            let words = state.words();
+            self.expected[..words.len()].copy_from_slice(&words);
         }
         if archive != model {
             return Err(format!("{call:?}: the archive gives {archive:?}, the model {model:?}"));

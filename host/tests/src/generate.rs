@@ -1,6 +1,7 @@
 //! Screens, shapes and pools, most of them where an answer turns.
 
-use model::pool::{State, Tile, IDS_OF_BLOCK, MOST_ID};
+use model::layout::{Layout, LAYOUTS};
+use model::pool::{State, Tile, MOST_ID};
 use model::screen::{Rectangle, Screen};
 use model::{Pixel, Vertex, UNITS};
 
@@ -81,6 +82,21 @@ pub fn bad_screen(random: &Random) -> Screen {
         (1, 1, 32),
     ]);
     Screen { width, height, s }
+}
+
+/// The layouts in turn.
+pub fn layout(place: u64) -> Layout {
+    LAYOUTS[(place % LAYOUTS.len() as u64) as usize]
+}
+
+/// Edition two with words per block that it cannot have.
+pub fn bad_layouts() -> [Layout; 12] {
+    [0, 1, 16, 31, 33, 48, 63, 65, 96, 128, 1 << 31 | 32, u32::MAX].map(|block_words| Layout::Two { block_words })
+}
+
+/// One of the `bad_layouts`.
+pub fn bad_layout(random: &Random) -> Layout {
+    random.pick(&bad_layouts())
 }
 
 /// A tile of the screen; those of the first and of the last column and row more often.
@@ -221,33 +237,38 @@ pub fn id(random: &Random) -> u32 {
     }
 }
 
-/// A mark of a tile with so many entries, in a pool of so many blocks: the entries, the most that there can be, or between.
-fn mark(random: &Random, entries: usize, blocks: u32) -> u32 {
-    let (least, most) = (entries as u32, IDS_OF_BLOCK as u32 * blocks);
+/// A mark of a tile with so many entries, in a pool whose blocks hold so many: the entries, the most that there can be, or
+/// between.
+fn mark(random: &Random, entries: usize, most: usize) -> u32 {
+    let (least, most) = (entries as u32, most as u32);
     random.pick(&[least, least, most, least + random.below(most - least + 1)])
 }
 
 /// The state of a sound pool, its blocks in any order: most have chains of up to three blocks, one in a hundred has longer
 /// ones, and one in four thousand is as large as a pool can be.
-pub fn state(random: &Random) -> State {
+pub fn state(random: &Random, layout: Layout) -> State {
     let (screen, blocks, long) = match random.below(4000) {
         0 => (full_screen(random), 2048, 70),
         1..=40 => (screen(random, 3), random.below(200), 70),
         _ => (screen(random, 5), random.below(random.pick(&[3, 12, 40])), 3),
     };
-    let mut state = State::opened(screen, blocks);
+    let ids_of_block = layout.ids_of_block();
+    let mut state = State::opened(layout, screen, blocks);
     random.shuffle(state.free.make_contiguous());
     for tile in &mut state.tiles {
         let chain = random.pick(&[0, 0, 1, 1, 2, 1 + random.below(long)]) as usize;
         let chain = if chain > state.free.len() { 0 } else { chain };
         let entries = match chain {
             0 => 0,
-            _ => IDS_OF_BLOCK * chain - random.pick(&[0, 1, 29, 30, random.below(31) as usize]),
+            _ => {
+                let any = random.below(ids_of_block as u32) as usize;
+                ids_of_block * chain - random.pick(&[0, 1, ids_of_block - 2, ids_of_block - 1, any])
+            }
         };
         *tile = Tile {
             blocks: state.free.drain(..chain).collect(),
             ids: (0..entries).map(|_| random.pick(&[0, MOST_ID, random.below(MOST_ID)])).collect(),
-            mark: mark(random, entries, blocks),
+            mark: mark(random, entries, ids_of_block * blocks as usize),
         };
     }
     state

@@ -2,7 +2,6 @@
 
 use flourscoop::raw::{self, Answer};
 use model::number;
-use model::pool::mark_at;
 
 use crate::call::{Call, Outcome, Slot};
 
@@ -43,8 +42,11 @@ impl Watched {
 
     /// Compares each mark as it stands in the words, and some, all in turn, as the archive tells them.
     fn marks(&mut self) -> Result<(), String> {
+        let Some(state) = &self.slot.state else {
+            return Ok(());
+        };
         let tiles = self.greatest.len();
-        let in_words = |tile: usize| self.slot.words[mark_at(tile as u32)];
+        let in_words = |tile: usize| self.slot.words[state.layout.mark_at(tile as u32)];
         let told = |tile: usize| raw::high_water(&self.slot.words, tile as u32);
         let asked = (self.next..self.next + ASKED.min(tiles)).map(|tile| tile % tiles);
         let is_told = |tile: usize| told(tile) == Answer { number: number::DONE, values: [self.greatest[tile]] };

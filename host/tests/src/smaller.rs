@@ -1,6 +1,7 @@
 //! What is a step smaller than a case's parts, the boldest step first.
 
-use model::pool::{State, Tile, IDS_OF_BLOCK};
+use model::layout::{Layout, LAYOUTS};
+use model::pool::{State, Tile};
 use model::screen::Screen;
 use model::Vertex;
 
@@ -53,6 +54,11 @@ pub fn screens(screen: Screen) -> Vec<Screen> {
     all
 }
 
+/// The layouts before this one.
+pub fn layouts(layout: Layout) -> Vec<Layout> {
+    LAYOUTS.into_iter().filter(|&smaller| smaller < layout).collect()
+}
+
 /// The smaller shapes: fewer vertices, and coordinates nearer to 0.
 pub fn shapes(shape: &[Vertex]) -> Vec<Vec<Vertex>> {
     let mut all: Vec<_> = fewer(shape).into_iter().filter(|shape| !shape.is_empty()).collect();
@@ -68,7 +74,7 @@ pub fn shapes(shape: &[Vertex]) -> Vec<Vec<Vertex>> {
 /// boldest.
 pub fn states(state: &State) -> Vec<State> {
     let used: Vec<usize> = (0..state.tiles.len()).filter(|&tile| state.tiles[tile] != Tile::default()).collect();
-    let mut all = vec![State::opened(state.screen, state.blocks)];
+    let mut all = vec![State::opened(state.layout, state.screen, state.blocks)];
     let mut in_order = state.clone();
     in_order.free.make_contiguous().sort_unstable();
     all.push(in_order);
@@ -85,8 +91,8 @@ pub fn states(state: &State) -> Vec<State> {
         if half > 0 {
             let mut shorter = state.clone();
             let (blocks, rest) = blocks.split_at(half);
-            shorter.tiles[tile] =
-                Tile { blocks: blocks.to_vec(), ids: ids[..half * IDS_OF_BLOCK].to_vec(), mark: *mark };
+            let ids = ids[..half * state.layout.ids_of_block()].to_vec();
+            shorter.tiles[tile] = Tile { blocks: blocks.to_vec(), ids, mark: *mark };
             shorter.free.extend(rest);
             all.push(shorter);
         }
@@ -101,13 +107,14 @@ pub fn states(state: &State) -> Vec<State> {
     all
 }
 
-/// Opened pools with fewer blocks or a smaller screen, where this is one.
+/// Opened pools with fewer blocks, a smaller screen or a layout before this one, where this is one.
 pub fn pools(state: &State) -> Vec<State> {
-    if *state != State::opened(state.screen, state.blocks) {
+    let &State { layout, screen, blocks, .. } = state;
+    if *state != State::opened(layout, screen, blocks) {
         return Vec::new();
     }
-    let fewer = lower(state.blocks).into_iter();
-    let mut all: Vec<_> = fewer.map(|blocks| State::opened(state.screen, blocks)).collect();
-    all.extend(screens(state.screen).into_iter().map(|screen| State::opened(screen, state.blocks)));
+    let mut all: Vec<_> = lower(blocks).into_iter().map(|blocks| State::opened(layout, screen, blocks)).collect();
+    all.extend(screens(screen).into_iter().map(|screen| State::opened(layout, screen, blocks)));
+    all.extend(layouts(layout).into_iter().map(|layout| State::opened(layout, screen, blocks)));
     all
 }

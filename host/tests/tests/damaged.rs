@@ -1,16 +1,15 @@
-//! Sound pools with one to three words changed: the audit against the sentences on soundness, and calls on them. The ends of a
-//! mark's range, and pools in the layout of three words a tile.
+//! Sound pools in each layout with one to three words changed: the audit against the sentences on soundness, and calls on
+//! them. The ends of a mark's range, the words that tell the layout, and pools with three words a tile.
 
 use std::collections::BTreeMap;
 
+use model::layout::{Layout, LAYOUTS, WORDS_OF_TILE};
 use model::marked::SCREEN;
 use model::number;
-use model::pool::{
-    block_at, mark_at, room, tile_at, State, HEADER, IDS_OF_BLOCK, MOST_BLOCKS, MOST_ID, POISON, WORDS_OF_TILE,
-};
+use model::pool::{State, MOST_BLOCKS, MOST_ID, POISON};
 use model::screen::Screen;
 use tests::call::{Call, Slot};
-use tests::generate;
+use tests::generate::{self, bad_layouts};
 use tests::hold::{hold, Case};
 use tests::random::Random;
 use tests::smaller::{self, fewer};
@@ -27,17 +26,18 @@ struct Damaged {
 
 /// A word of the pool, those on which soundness turns more often.
 fn place(random: &Random, state: &State, words: &[u32]) -> usize {
+    let layout = state.layout;
     let any = random.below(words.len() as u32) as usize;
     let tile = generate::tile(random, state.screen);
     let block = random.below(state.blocks.max(1));
     let chain = &state.tiles[tile as usize];
     // the places around the end of the tile's list
-    let end = chain.ids.len().saturating_sub(random.below(2) as usize) % IDS_OF_BLOCK;
-    let at_end = chain.blocks.last().map_or(any, |&last| block_at(state.screen, last) + end);
+    let end = chain.ids.len().saturating_sub(random.below(2) as usize) % layout.ids_of_block();
+    let at_end = chain.blocks.last().map_or(any, |&last| layout.block_at(state.screen, last) + end);
     let place = match random.below(8) {
-        0 => random.below(8) as usize,
-        1 | 2 => tile_at(tile) + random.below(WORDS_OF_TILE as u32) as usize,
-        3 | 4 => block_at(state.screen, block) + IDS_OF_BLOCK,
+        0 => random.below(layout.header() as u32) as usize,
+        1 | 2 => layout.tile_at(tile) + random.below(WORDS_OF_TILE as u32) as usize,
+        3 | 4 => layout.link_at(state.screen, block),
         5 => at_end,
         _ => any,
     };
@@ -48,13 +48,13 @@ fn place(random: &Random, state: &State, words: &[u32]) -> usize {
 fn value(random: &Random, state: &State, words: &[u32], place: usize) -> u32 {
     let other = words[random.below(words.len() as u32) as usize];
     let link = random.below(state.blocks + 2);
-    let most_entries = IDS_OF_BLOCK as u32 * state.blocks;
+    let most_entries = state.layout.ids_of_block() as u32 * state.blocks;
     match random.below(9) {
         0 => words[place].wrapping_add(1),
         1 => words[place].wrapping_sub(1),
         2 => other,
         3 | 4 => link,
-        5 => random.pick(&[0, 1, 31, 32, POISON, MOST_ID, MOST_ID + 1, u32::MAX]),
+        5 => random.pick(&[0, 1, 8, 10, 31, 32, 63, 64, POISON, MOST_ID, MOST_ID + 1, u32::MAX]),
         6 => random.below(MOST_ID),
         7 => random.pick(&[most_entries, most_entries + 1]),
         _ => random.word() as u32,
@@ -64,11 +64,11 @@ fn value(random: &Random, state: &State, words: &[u32], place: usize) -> u32 {
 /// Changes after which each chain is right by itself, and the chains together are not: a tile has another's chain, the
 /// first free block is in no chain, or a tile's blocks are in none.
 fn amiss_as_a_whole(random: &Random, state: &State, words: &[u32]) -> Vec<(usize, u32)> {
-    let [from, to] = [0; 2].map(|_| tile_at(generate::tile(random, state.screen)));
+    let [from, to] = [0; 2].map(|_| state.layout.tile_at(generate::tile(random, state.screen)));
     match random.below(3) {
         0 => (0..WORDS_OF_TILE).map(|word| (to + word, words[from + word])).collect(),
         1 if words[5] != 0 => {
-            let after = block_at(state.screen, words[5] - 1) + IDS_OF_BLOCK;
+            let after = state.layout.link_at(state.screen, words[5] - 1);
             vec![(4, words[4] - 1), (5, words[after])]
         }
         _ => (0..WORDS_OF_TILE).map(|word| (to + word, 0)).collect(),
@@ -78,7 +78,7 @@ fn amiss_as_a_whole(random: &Random, state: &State, words: &[u32]) -> Vec<(usize
 impl Damaged {
     /// A call on a pool that is as it was opened or binned.
     fn whole(state: State, call: Call) -> Damaged {
-        Damaged { length: room(state.screen, state.blocks), state, changes: Vec::new(), call }
+        Damaged { length: state.words().len(), state, changes: Vec::new(), call }
     }
 
     fn words(&self) -> Vec<u32> {
@@ -97,8 +97,8 @@ impl Case for Damaged {
     /// `Sound`, or the first fault that the model finds
     type Seen = String;
 
-    fn make(random: &Random, _place: u64) -> Damaged {
-        let state = generate::state(random);
+    fn make(random: &Random, place_of_case: u64) -> Damaged {
+        let state = generate::state(random, generate::layout(place_of_case));
         let words = state.words();
         let places: Vec<usize> = (0..1 + random.below(3)).map(|_| place(random, &state, &words)).collect();
         let changes = match (random.below(8), &places[..]) {
@@ -109,7 +109,7 @@ impl Case for Damaged {
         let length = match random.below(40) {
             0 => words.len() - 1,
             1 => random.below(words.len() as u32) as usize,
-            2 => random.below(9) as usize,
+            2 => random.below(12) as usize,
             3..=9 => words.len() + random.below(40) as usize,
             _ => words.len(),
         };
@@ -118,7 +118,7 @@ impl Case for Damaged {
             0 => middle,
             1 => last,
             2 => past,
-            _ => Call::make(random, state.screen),
+            _ => Call::make(random, state.layout, state.screen),
         };
         Damaged { state, changes, length, call }
     }
@@ -126,7 +126,7 @@ impl Case for Damaged {
     fn smaller(&self) -> Vec<Damaged> {
         let with = |changes| Damaged { changes, ..self.clone() };
         let mut all: Vec<_> = fewer(&self.changes).into_iter().map(with).collect();
-        let room = room(self.state.screen, self.state.blocks);
+        let room = self.state.words().len();
         if self.length != room {
             all.push(Damaged { length: room, ..self.clone() });
         }
@@ -142,7 +142,7 @@ impl Case for Damaged {
     fn run(&self) -> Result<String, String> {
         let mut slot = Slot::over(self.words(), self.state.blocks);
         let verdict = match State::read(&slot.words) {
-            Ok(state) if slot.words[..room(state.screen, state.blocks)] != state.words() => {
+            Ok(state) if !slot.words.starts_with(&state.words()) => {
                 return Err("the words of the state that was read are others".into());
             }
             Ok(_) => "Sound".into(),
@@ -154,77 +154,160 @@ impl Case for Damaged {
     }
 }
 
-#[test]
-fn the_audit_says_yes_exactly_for_sound_pools() {
-    let mut verdicts: BTreeMap<String, u64> = BTreeMap::new();
-    let (mut chain, mut largest, mut cut) = (0, 0, 0);
-    hold(0xF100_0003, 200_000, |case: &Damaged, verdict| {
-        *verdicts.entry(verdict).or_default() += 1;
-        chain = chain.max(case.state.longest_chain());
-        largest += u32::from(case.state.tiles.len() == 4096 && case.state.blocks == 2048);
-        cut += u32::from(cut_both_ways(case.state.screen));
-    });
-    println!("sound still, or the first fault found: {verdicts:?}");
-    println!("the longest chain has {chain} blocks; {largest} pools have 4,096 tiles and 2,048 blocks");
-    println!("{cut} pools are for screens cut on both axes");
-    assert_eq!(verdicts.len(), 11, "each sentence should be broken, and some pools be sound still");
-    assert!(verdicts.values().all(|&pools| pools > 500), "each often");
-    assert!(chain > 40 && largest > 20, "long chains and largest pools should be there");
-    assert!(cut > 50_000, "screens that are cut on both axes should be common");
+/// What the pools of a layout reached.
+#[derive(Default, Debug)]
+struct Reached {
+    /// sound still, or the first fault found
+    verdicts: BTreeMap<String, u64>,
+    /// the most blocks that a chain had
+    chain: usize,
+    /// how many have 4,096 tiles and 2,048 blocks
+    largest: u32,
 }
 
-/// Each call on these words is refused with 4, and every word stays.
-fn expect_unsound(words: &[u32], what: &str) {
+#[test]
+fn the_audit_says_yes_exactly_for_sound_pools() {
+    let mut reached: BTreeMap<Layout, Reached> = BTreeMap::new();
+    let mut cut = 0;
+    hold(0xF100_0003, 400_000, |Damaged { state, .. }: &Damaged, verdict| {
+        let reached = reached.entry(state.layout).or_default();
+        *reached.verdicts.entry(verdict).or_default() += 1;
+        reached.chain = reached.chain.max(state.longest_chain());
+        reached.largest += u32::from(state.tiles.len() == 4096 && state.blocks == 2048);
+        cut += u32::from(cut_both_ways(state.screen));
+    });
+    reached.iter().for_each(|(layout, reached)| println!("{layout:?}: {reached:?}"));
+    println!("{cut} pools are for screens cut on both axes");
+    assert_eq!(reached.len(), LAYOUTS.len());
+    for Reached { verdicts, chain, largest } in reached.into_values() {
+        assert_eq!(verdicts.len(), 11, "each sentence should be broken, and some pools be sound still");
+        assert!(verdicts.values().all(|&pools| pools > 500), "each often");
+        assert!(chain > 40 && largest > 20, "long chains and largest pools should be there");
+    }
+    assert!(cut > 100_000, "screens that are cut on both axes should be common");
+}
+
+/// Each call on these words is refused with 4, and every word stays. The answer is the words after the calls.
+fn expect_unsound(words: &[u32], what: &str) -> Vec<u32> {
     let mut slot = Slot::over(words.to_vec(), 0);
     for call in Call::each_on_a_pool() {
         assert_eq!(slot.call(&call), Ok([number::UNSOUND, 0, 0]), "{call:?} on {what}");
     }
     assert_eq!(slot.words, words, "{what}");
+    slot.words
 }
 
-/// The audit says yes to these words, and the mark of tile 0 is told before and after a release.
-fn expect_sound(words: &[u32], what: &str) {
-    let (entries, mark) = (words[tile_at(0)], words[mark_at(0)]);
+/// The words are a sound pool of this layout: the audit says yes, and the mark of tile 0 is told before and after a release.
+fn expect_sound(words: &[u32], layout: Layout, what: &str) {
     let mut slot = Slot::over(words.to_vec(), 0);
+    let state = slot.state.as_ref().unwrap_or_else(|| panic!("{what} is not sound"));
+    let (blocks, mark) = (state.tiles[0].blocks.len() as u32, state.tiles[0].mark);
+    assert_eq!(state.layout, layout, "{what}");
     let mut expect = |call, value| assert_eq!(slot.call(&call), Ok([number::DONE, value, 0]), "{call:?} on {what}");
     expect(Call::Audit, 0);
     expect(Call::HighWater { tile: 0 }, mark);
-    expect(Call::Release { tile: 0 }, entries.div_ceil(31));
+    expect(Call::Release { tile: 0 }, blocks);
     expect(Call::HighWater { tile: 0 }, mark);
 }
 
 /// A pool in which tile 0 has so many entries.
-fn with_entries(screen: Screen, blocks: u32, entries: u32) -> State {
-    let mut state = State::opened(screen, blocks);
+fn with_entries(layout: Layout, screen: Screen, blocks: u32, entries: u32) -> State {
+    let mut state = State::opened(layout, screen, blocks);
     for id in 0..entries {
         assert_eq!(state.bin(id, &[[1, 1]]).map(|[tiles, _]| tiles), Ok(1));
     }
     state
 }
 
+/// The words with changes: alone, and in a slice so long that it is not the length that is refused.
+fn changed(words: &[u32], changes: &[(usize, u32)]) -> [Vec<u32>; 3] {
+    let mut changed = words.to_vec();
+    changes.iter().for_each(|&(place, value)| changed[place] = value);
+    let [mut before_zeros, mut before_poison] = [changed.clone(), changed.clone()];
+    before_zeros.resize(2 * words.len(), 0);
+    before_poison.resize(2 * words.len(), POISON);
+    [changed, before_zeros, before_poison]
+}
+
 #[test]
 fn a_mark_is_at_least_the_entries_and_at_most_what_all_blocks_hold() {
-    let small = [(0, 0), (1, 0), (1, 1), (1, 31), (2, 0), (2, 1), (2, 31), (2, 32), (2, 62)];
-    for (blocks, entries) in small.into_iter().chain([(MOST_BLOCKS, 0), (MOST_BLOCKS, 63)]) {
-        let most = 31 * blocks;
-        let with_mark = |mark: u32| {
-            let mut words = with_entries(SCREEN, blocks, entries).words();
-            words[mark_at(0)] = mark;
-            (words, format!("{entries} entries and the mark {mark} of {blocks} blocks"))
-        };
-        for (words, what) in [entries, (entries + most) / 2, most].map(with_mark) {
-            expect_sound(&words, &what);
-        }
-        for (words, what) in [entries.wrapping_sub(1), most + 1, 1 << 16, u32::MAX].map(with_mark) {
-            expect_unsound(&words, &what);
+    for layout in LAYOUTS {
+        let ids = layout.ids_of_block() as u32;
+        let small = [(0, 0), (1, 0), (1, 1), (1, ids), (2, 0), (2, 1), (2, ids), (2, ids + 1), (2, 2 * ids)];
+        for (blocks, entries) in small.into_iter().chain([(MOST_BLOCKS, 0), (MOST_BLOCKS, 2 * ids + 1)]) {
+            let most = ids * blocks;
+            let with_mark = |mark: u32| {
+                let mut words = with_entries(layout, SCREEN, blocks, entries).words();
+                words[layout.mark_at(0)] = mark;
+                (words, format!("{entries} entries and the mark {mark} of {blocks} blocks in {layout:?}"))
+            };
+            for (words, what) in [entries, (entries + most) / 2, most].map(with_mark) {
+                expect_sound(&words, layout, &what);
+            }
+            for (words, what) in [entries.wrapping_sub(1), most + 1, 1 << 17, u32::MAX].map(with_mark) {
+                expect_unsound(&words, &what);
+            }
         }
     }
 }
 
-/// The words of a pool in the layout of three words a tile, which has no marks.
+const ONE_TILE: Screen = Screen { width: 1, height: 1, s: 3 };
+const MOST_TILES: Screen = Screen { width: 512, height: 512, s: 3 };
+
+/// Pools of a layout with no block, with free ones, and with up to three blocks in a chain.
+fn pools(layout: Layout) -> Vec<State> {
+    let ids = layout.ids_of_block() as u32;
+    let small = [(SCREEN, 0, 0), (SCREEN, 2, 0), (SCREEN, 2, 1), (SCREEN, 2, ids), (SCREEN, 40, ids + 1)];
+    let others = [(ONE_TILE, 0, 0), (ONE_TILE, 3, 2 * ids + 1), (MOST_TILES, MOST_BLOCKS, ids + 1)];
+    let state = |(screen, blocks, entries)| with_entries(layout, screen, blocks, entries);
+    small.into_iter().chain(others).map(state).collect()
+}
+
+/// Word 6, alone or with the word 7 that goes with it, says another edition, or none; then both are changed back.
+#[test]
+fn a_pool_is_read_as_the_edition_that_word_6_tells() {
+    for state in LAYOUTS.into_iter().flat_map(pools) {
+        let words = state.words();
+        for word_6 in [0, 7, 8, 9, 10, 11, 32, 64, u32::MAX].into_iter().filter(|&word_6| word_6 != words[6]) {
+            for word_7 in [words[7], word_6.wrapping_add(4 * state.screen.tiles())] {
+                let what = format!("words 6 and 7 are {word_6} and {word_7} in {state:?}");
+                for slice in changed(&words, &[(6, word_6), (7, word_7)]) {
+                    let mut after = expect_unsound(&slice, &what);
+                    after[6..8].copy_from_slice(&words[6..8]);
+                    expect_sound(&after, state.layout, &format!("{what}, and are changed back"));
+                }
+            }
+        }
+    }
+}
+
+#[test]
+fn words_8_and_9_are_as_the_opening_writes_them() {
+    for state in LAYOUTS[1..].iter().copied().flat_map(pools) {
+        let words = state.words();
+        let refused_with = |place, value| {
+            for slice in changed(&words, &[(place, value)]) {
+                expect_unsound(&slice, &format!("word {place} is {value} in {state:?}"));
+            }
+        };
+        bad_layouts().iter().for_each(|bad| refused_with(8, bad.words_of_block() as u32));
+        [1, 2, 8, 10, 31, 32, 64, POISON, 1 << 31, u32::MAX].iter().for_each(|&word_9| refused_with(9, word_9));
+        // without a block the other size says as much
+        let other = 96 - words[8];
+        match state.blocks {
+            0 => {
+                let [words, ..] = changed(&words, &[(8, other)]);
+                expect_sound(&words, Layout::Two { block_words: other }, &format!("word 8 is {other} in {state:?}"));
+            }
+            _ => refused_with(8, other),
+        }
+    }
+}
+
+/// The words of a pool of edition one with three words a tile, which have no marks.
 fn three_words_a_tile(state: &State) -> Vec<u32> {
     let words = state.words();
-    let (tiles, blocks) = words[HEADER..].split_at(WORDS_OF_TILE * state.tiles.len());
+    let (tiles, blocks) = words[8..].split_at(WORDS_OF_TILE * state.tiles.len());
     let without_marks = tiles.chunks(WORDS_OF_TILE).flat_map(|tile| &tile[..3]);
     let header = words[..7].iter().copied().chain([8 + 3 * state.screen.tiles()]);
     header.chain(without_marks.chain(blocks).copied()).collect()
@@ -232,20 +315,11 @@ fn three_words_a_tile(state: &State) -> Vec<u32> {
 
 #[test]
 fn a_pool_of_three_words_a_tile_is_refused() {
-    let one_tile = Screen { width: 1, height: 1, s: 3 };
-    let most_tiles = Screen { width: 512, height: 512, s: 3 };
-    for (screen, blocks) in [(SCREEN, 0), (SCREEN, 2), (SCREEN, 40), (one_tile, 0), (one_tile, 3), (most_tiles, 2048)] {
-        for entries in [0, 1, 31, 32].into_iter().filter(|entries: &u32| entries.div_ceil(31) <= blocks) {
-            let words = three_words_a_tile(&with_entries(screen, blocks, entries));
-            let what = format!("{screen:?} with {blocks} blocks and {entries} entries");
-            assert_eq!(words.len(), (8 + 3 * screen.tiles() + 32 * blocks) as usize, "{what}");
-            expect_unsound(&words, &what);
-            // it is not the length that is refused
-            for past in [0, POISON] {
-                let mut longer = words.clone();
-                longer.resize(room(screen, blocks), past);
-                expect_unsound(&longer, &what);
-            }
+    for state in pools(Layout::One) {
+        let words = three_words_a_tile(&state);
+        assert_eq!(words.len(), (8 + 3 * state.screen.tiles() + 32 * state.blocks) as usize);
+        for slice in changed(&words, &[]) {
+            expect_unsound(&slice, &format!("three words a tile in {state:?}"));
         }
     }
 }

@@ -1,7 +1,8 @@
-//! What document 01 and requests P2 and P8 list, by the wrapper.
+//! What document 01 and requests P2, P8 and P12 list, by the wrapper.
 
-use flourscoop::{box_touches, corner_touches, room, unit, Binned, Pixel, Pool, Refusal, Shape, Vertex};
-use model::marked::{Cut, Marked, CUT, MARKED, SCREEN};
+use flourscoop::{box_touches, corner_touches, room, room_two, unit, Binned, Pixel, Pool, Refusal, Shape, Vertex};
+use model::layout::Layout;
+use model::marked::{Cut, Marked, PoolCase, CUT, MARKED, POOL_CASES, SCREEN};
 use model::screen::Screen;
 use model::unit::TABLE;
 use tests::call::{screen_of, shape_of};
@@ -44,34 +45,58 @@ fn the_box_of_a_negative_point_gains_no_tile() {
 }
 
 #[test]
-fn pool_case() {
+fn pool_cases() {
     let screen = screen_of(SCREEN);
-    assert_eq!(room(screen, 2), Ok(104));
-    let mut words = [0; 104];
-    let mut pool = Pool::open(&mut words, screen, 2).unwrap();
-    assert_eq!(pool.words()[..8], [64, 32, 4, 2, 2, 1, 8, 40]);
-    let opened = pool.words().to_vec();
-    assert_eq!(pool.high_water(0), Ok(0));
+    for PoolCase { layout, words, header } in POOL_CASES {
+        let mut lent = vec![0; words];
+        let (room, opened) = match layout {
+            Layout::One => (room(screen, 2), Pool::open(&mut lent, screen, 2)),
+            Layout::Two { block_words } => {
+                (room_two(screen, 2, block_words), Pool::open_two(&mut lent, screen, 2, block_words))
+            }
+        };
+        let mut pool = opened.unwrap();
+        assert_eq!((room, &pool.words()[..header.len()]), (Ok(words), header));
+        let opened = pool.words().to_vec();
+        assert_eq!(pool.high_water(0), Ok(0));
 
-    assert_eq!(pool.bin(7, point(0, 0)), Ok(Binned { tiles: 1, blocks: 1 }));
-    assert_eq!(pool.words()[4..6], [1, 2]);
-    assert_eq!(pool.words()[8..12], [1, 1, 1, 1]);
-    let binned = pool.words().to_vec();
-    assert_eq!(pool.bin(9, point(256, 256)), Err(Refusal::NoRoom));
-    assert_eq!(pool.words(), binned);
-    assert_eq!(pool.read(0, 0), Ok(7));
-    assert_eq!(pool.read(0, 1), Err(Refusal::NoPlace));
-    assert_eq!(pool.read(8, 0), Err(Refusal::NoTile));
-    assert_eq!([0, 1, 7, 8].map(|tile| pool.high_water(tile)), [Ok(1), Ok(0), Ok(0), Err(Refusal::NoTile)]);
+        assert_eq!(pool.bin(7, point(0, 0)), Ok(Binned { tiles: 1, blocks: 1 }));
+        assert_eq!(pool.words()[4..6], [1, 2]);
+        assert_eq!(pool.words()[header.len()..][..4], [1, 1, 1, 1]);
+        let binned = pool.words().to_vec();
+        assert_eq!(pool.bin(9, point(256, 256)), Err(Refusal::NoRoom));
+        assert_eq!(pool.words(), binned);
+        assert_eq!(pool.read(0, 0), Ok(7));
+        assert_eq!(pool.read(0, 1), Err(Refusal::NoPlace));
+        assert_eq!(pool.read(8, 0), Err(Refusal::NoTile));
+        assert_eq!([0, 1, 7, 8].map(|tile| pool.high_water(tile)), [Ok(1), Ok(0), Ok(0), Err(Refusal::NoTile)]);
 
-    // every word is as opened, but for the mark of tile 0
-    assert_eq!(pool.release(0), Ok(1));
-    let changed: Vec<usize> = (0..104).filter(|&at| pool.words()[at] != opened[at]).collect();
-    assert_eq!((changed, pool.words()[11]), (vec![11], 1));
-    assert_eq!(pool.high_water(0), Ok(1));
-    assert_eq!(pool.release(0), Ok(0));
-    assert_eq!(pool.high_water(0), Ok(1));
-    assert!(pool.is_sound());
+        // every word is as opened, but for the mark of tile 0
+        assert_eq!(pool.release(0), Ok(1));
+        let changed: Vec<usize> = (0..words).filter(|&at| pool.words()[at] != opened[at]).collect();
+        assert_eq!((&changed[..], pool.words()[changed[0]]), (&[header.len() + 3][..], 1));
+        assert_eq!(pool.high_water(0), Ok(1));
+        assert_eq!(pool.release(0), Ok(0));
+        assert_eq!(pool.high_water(0), Ok(1));
+        assert!(pool.is_sound());
+    }
+}
+
+#[test]
+fn an_edition_two_pool_is_refused_while_word_6_is_8() {
+    let screen = screen_of(SCREEN);
+    for block_words in [32, 64] {
+        let mut words = vec![0; room_two(screen, 2, block_words).unwrap()];
+        Pool::open_two(&mut words, screen, 2, block_words).unwrap().bin(7, point(0, 0)).unwrap();
+        let mut read_with = |word_6| {
+            words[6] = word_6;
+            let mut pool = Pool::over(&mut words);
+            (pool.is_sound(), pool.read(0, 0), pool.high_water(0), pool.bin(8, point(1, 1)), pool.release(1))
+        };
+        let refused = |refusal| (false, Err(refusal), Err(refusal), Err(refusal), Err(refusal));
+        assert_eq!(read_with(8), refused(Refusal::Unsound));
+        assert_eq!(read_with(10), (true, Ok(7), Ok(1), Ok(Binned { tiles: 1, blocks: 0 }), Ok(0)));
+    }
 }
 
 #[test]

@@ -7,6 +7,7 @@
 use std::thread;
 
 use flourscoop::raw::{self, Answer};
+use model::layout::Layout;
 use model::pool::State;
 use model::screen::Screen;
 use model::touch::touched;
@@ -53,7 +54,7 @@ struct Images {
 
 impl Images {
     fn new() -> Images {
-        let mut state = State::opened(SCREEN, 4);
+        let mut state = State::opened(Layout::One, SCREEN, 4);
         let opened = state.words();
         assert_eq!(state.bin(ID, &[[MEETING, MEETING]]), Ok([4, 4]));
         Images { opened, listed: state.words() }

@@ -1,6 +1,7 @@
-//! The C header says what the wrapper and the model say: numbers, texts, version and the words of its example.
+//! The C header says what the wrapper and the model say: numbers, texts, version and the words of its examples.
 
 use flourscoop::Refusal;
+use model::layout::Layout;
 use model::marked::SCREEN;
 use model::pool::{State, POISON};
 
@@ -46,16 +47,20 @@ fn the_version_is_the_crates() {
     assert_eq!(parts.join("."), env!("CARGO_PKG_VERSION"));
 }
 
-/// The words of the header's example: each line has its first and last word, and what they are.
-fn example() -> Vec<u32> {
+/// The words of the header's examples: each line has its first and last word, and what they are.
+fn examples() -> Vec<Vec<u32>> {
     let number = |text: &str| text.parse::<usize>().unwrap();
-    let mut words: Vec<u32> = Vec::new();
+    let mut examples = Vec::new();
     for line in HEADER.lines().filter_map(|line| line.strip_prefix(" *     word ")) {
         let Some((Ok(first), rest)) = line.split_once(" to ").map(|(first, rest)| (first.trim().parse(), rest)) else {
             continue;
         };
         let (last, rest) = rest.trim_start().split_once("   ").unwrap();
-        let (said, _) = rest.split_once("  ").unwrap();
+        let (said, _) = rest.split_once("  ").unwrap_or((rest, ""));
+        if first == 0 {
+            examples.push(Vec::new());
+        }
+        let words: &mut Vec<u32> = examples.last_mut().unwrap();
         assert_eq!(words.len(), first, "{line}");
         for part in said.split(", ") {
             match (part.strip_suffix(" times poison"), part) {
@@ -66,12 +71,15 @@ fn example() -> Vec<u32> {
         }
         assert_eq!(words.len(), number(last) + 1, "{line}");
     }
-    words
+    examples
 }
 
 #[test]
-fn the_example_is_the_model_s() {
-    let mut pool = State::opened(SCREEN, 2);
-    pool.bin(7, &[[0, 0]]).unwrap();
-    assert_eq!(example(), pool.words());
+fn the_examples_are_the_model_s() {
+    let binned = |layout| {
+        let mut pool = State::opened(layout, SCREEN, 2);
+        pool.bin(7, &[[0, 0]]).unwrap();
+        pool.words()
+    };
+    assert_eq!(examples(), [Layout::One, Layout::Two { block_words: 64 }].map(binned));
 }

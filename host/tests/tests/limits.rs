@@ -1,15 +1,15 @@
-//! Every limit from both sides, on the archive and on the model: 4,096 tiles, the end of the screen, 2,048 blocks, chains
-//! and marks up to the longest, and slices as long as the room and a word less.
+//! Every limit from both sides, on the archive and on the model, in each layout: 4,096 tiles, the end of the screen, 2,048
+//! blocks of 32 or 64 words, chains and marks up to the longest, and slices as long as the room and a word less.
 
-use flourscoop::{raw, Refusal};
+use flourscoop::Refusal;
+use model::layout::{Layout, LAYOUTS};
 use model::number;
-use model::pool::{room, State, Tile, IDS_OF_BLOCK, MOST_BLOCKS};
+use model::pool::{State, Tile, MOST_BLOCKS};
 use model::screen::Screen;
 use model::Vertex;
-use tests::call::{ask, screen_of, Blocks, Call, Outcome, Slot};
-use tests::generate::{cut_screens, full_screens, screen_with};
+use tests::call::{self, ask, screen_of, Blocks, Call, Outcome, Slot};
+use tests::generate::{bad_layouts, cut_screens, full_screens, screen_with};
 
-const IDS: u32 = IDS_OF_BLOCK as u32;
 const ONE_TILE: Screen = Screen { width: 8, height: 8, s: 3 };
 /// Columns, rows and s of screens of 4,096 tiles: the widest, the highest and the squares with the least and largest tiles.
 const FULL: [[u32; 3]; 4] = [[512, 8, 3], [8, 512, 3], [64, 64, 3], [64, 64, 6]];
@@ -24,8 +24,13 @@ fn expect(slot: &mut Slot, call: Call, outcome: Outcome) {
     assert_eq!(slot.call(&call), Ok(outcome), "{call:?} on {} words", slot.words.len());
 }
 
-fn open(screen: Screen, blocks: u32) -> Call {
-    Call::Open { screen, blocks: Blocks::These(blocks) }
+fn open(layout: Layout, screen: Screen, blocks: u32) -> Call {
+    Call::Open { layout, screen, blocks: Blocks::These(blocks) }
+}
+
+/// Each of these in every layout.
+fn in_each_layout<T: Copy>(items: impl IntoIterator<Item = T>) -> impl Iterator<Item = (Layout, T)> {
+    items.into_iter().flat_map(|item| LAYOUTS.map(|layout| (layout, item)))
 }
 
 /// Words that say nothing.
@@ -34,9 +39,9 @@ fn unopened(words: usize) -> Slot {
 }
 
 /// A pool as long as its room.
-fn opened(screen: Screen, blocks: u32) -> Slot {
-    let mut slot = unopened(room(screen, blocks));
-    expect(&mut slot, open(screen, blocks), alone(number::DONE));
+fn opened(layout: Layout, screen: Screen, blocks: u32) -> Slot {
+    let mut slot = unopened(layout.room(screen, blocks));
+    expect(&mut slot, open(layout, screen, blocks), alone(number::DONE));
     slot
 }
 
@@ -80,21 +85,21 @@ fn each_end() -> impl Iterator<Item = Screen> {
 #[test]
 fn a_screen_has_4096_tiles_and_no_more() {
     assert!(FULL.iter().all(|sizes| full_screens().contains(sizes)));
-    for (sizes, screen) in each_full_screen() {
+    for (layout, (sizes, screen)) in in_each_layout(each_full_screen()) {
         assert_eq!(screen.tiles(), 4096);
-        let mut slot = opened(screen, 0);
+        let mut slot = opened(layout, screen, 0);
         for larger in one_more(sizes) {
-            expect(&mut slot, open(larger, 0), alone(number::SCREEN));
+            expect(&mut slot, open(layout, larger, 0), alone(number::SCREEN));
         }
     }
     // 4,095 and 4,097 tiles
-    let mut slot = unopened(8 + 4 * 4097);
-    for s in 3..=4 {
+    for (layout, s) in in_each_layout(3..=4) {
+        let mut slot = unopened(10 + 4 * 4097);
         for [columns, rows] in [[63, 65], [65, 63]] {
-            expect(&mut slot, open(screen_with([columns, rows, s], [0, 0]), 0), alone(number::DONE));
+            expect(&mut slot, open(layout, screen_with([columns, rows, s], [0, 0]), 0), alone(number::DONE));
         }
         for [columns, rows] in [[17, 241], [241, 17]] {
-            expect(&mut slot, open(screen_with([columns, rows, s], [0, 0]), 0), alone(number::SCREEN));
+            expect(&mut slot, open(layout, screen_with([columns, rows, s], [0, 0]), 0), alone(number::SCREEN));
         }
     }
 }
@@ -136,9 +141,9 @@ fn expect_point(slot: &mut Slot, screen: Screen, point: Vertex, tiles: &[u32], t
 #[test]
 fn the_last_tile_ends_where_the_screen_ends() {
     let full = each_full_screen().map(|(_, screen)| screen).chain([screen_with([64, 64, 6], [1, 1])]);
-    for screen in each_end().chain(full) {
+    for (layout, screen) in in_each_layout(each_end().chain(full)) {
         let [right, bottom] = end_of(screen);
-        let mut slot = opened(screen, 1);
+        let mut slot = opened(layout, screen, 1);
         for x in right - 1..=right + 1 {
             for y in bottom - 1..=bottom + 1 {
                 let on_glass = x <= right && y <= bottom;
@@ -150,11 +155,11 @@ fn the_last_tile_ends_where_the_screen_ends() {
 
 #[test]
 fn the_last_column_and_row_end_where_the_screen_ends() {
-    for screen in each_end() {
+    for (layout, screen) in in_each_layout(each_end()) {
         let [columns, rows] = [screen.columns(), screen.rows()];
         let [right, bottom] = end_of(screen);
         let side = 16 << screen.s;
-        let mut slot = opened(screen, 2);
+        let mut slot = opened(layout, screen, 2);
         // where two of their tiles meet, and a unit past it; the last such places and, of many, one in eight
         let meetings = |tiles: u32| (1..tiles).rev().step_by(if tiles > 64 { 8 } else { 1 });
         for past in 0..=1 {
@@ -174,12 +179,29 @@ fn the_last_column_and_row_end_where_the_screen_ends() {
 
 #[test]
 fn a_pool_has_2048_blocks_and_no_more() {
-    for screen in [ONE_TILE, screen_with([64, 64, 6], [0, 0])] {
-        let mut slot = unopened(room(screen, MOST_BLOCKS + 1));
-        expect(&mut slot, open(screen, MOST_BLOCKS + 1), alone(number::BLOCKS));
-        expect(&mut slot, open(screen, u32::MAX), alone(number::BLOCKS));
-        expect(&mut slot, open(screen, MOST_BLOCKS), alone(number::DONE));
+    for (layout, screen) in in_each_layout([ONE_TILE, screen_with(FULL[3], [0, 0])]) {
+        let mut slot = unopened(layout.room(screen, MOST_BLOCKS + 1));
+        expect(&mut slot, open(layout, screen, MOST_BLOCKS + 1), alone(number::BLOCKS));
+        expect(&mut slot, open(layout, screen, u32::MAX), alone(number::BLOCKS));
+        expect(&mut slot, open(layout, screen, MOST_BLOCKS), alone(number::DONE));
         expect(&mut slot, Call::Audit, alone(number::DONE));
+    }
+}
+
+/// Another size is refused after the screen and before the length, as too many blocks are, and every word stays.
+#[test]
+fn a_block_has_32_or_64_words() {
+    let screen = screen_with([4, 2, 4], [0, 0]);
+    let [larger, _] = one_more(FULL[0]);
+    for bad in bad_layouts() {
+        for mut slot in
+            LAYOUTS.map(|layout| opened(layout, screen, 2)).into_iter().chain([unopened(0), unopened(1 << 16)])
+        {
+            expect(&mut slot, open(bad, larger, 2), alone(number::SCREEN));
+            for blocks in [0, 1, 2, MOST_BLOCKS, MOST_BLOCKS + 1, u32::MAX] {
+                expect(&mut slot, open(bad, screen, blocks), alone(number::BLOCKS));
+            }
+        }
     }
 }
 
@@ -187,13 +209,13 @@ fn a_pool_has_2048_blocks_and_no_more() {
 fn a_slice_is_as_long_as_the_room_or_longer() {
     let full = FULL.map(|sizes| (screen_with(sizes, [0, 0]), MOST_BLOCKS));
     let small = [(ONE_TILE, 0), (ONE_TILE, 1), (screen_with([4, 2, 4], [0, 0]), 2)];
-    for (screen, blocks) in small.into_iter().chain(full) {
-        let words = room(screen, blocks);
-        expect(&mut unopened(0), open(screen, blocks), alone(number::SHORT));
-        expect(&mut unopened(words - 1), open(screen, blocks), alone(number::SHORT));
-        expect(&mut unopened(words + 1), open(screen, blocks), alone(number::DONE));
+    for (layout, (screen, blocks)) in in_each_layout(small.into_iter().chain(full)) {
+        let words = layout.room(screen, blocks);
+        expect(&mut unopened(0), open(layout, screen, blocks), alone(number::SHORT));
+        expect(&mut unopened(words - 1), open(layout, screen, blocks), alone(number::SHORT));
+        expect(&mut unopened(words + 1), open(layout, screen, blocks), alone(number::DONE));
 
-        let mut pool = opened(screen, blocks);
+        let mut pool = opened(layout, screen, blocks);
         expect(&mut pool, bin_at(screen, 0, 7), if blocks == 0 { alone(number::NO_ROOM) } else { [0, 1, 1] });
         let mut cut = Slot::over(pool.words[..words - 1].to_vec(), blocks);
         for call in Call::each_on_a_pool() {
@@ -204,11 +226,12 @@ fn a_slice_is_as_long_as_the_room_or_longer() {
 
 #[test]
 fn a_shape_takes_2048_blocks_and_no_more() {
-    for ([columns, rows, _], screen) in each_full_screen().filter(|(sizes, _)| FULL.contains(sizes)) {
+    let full = each_full_screen().filter(|(sizes, _)| FULL.contains(sizes));
+    for (layout, ([columns, rows, _], screen)) in in_each_layout(full) {
         let half = |id| Call::Bin { id, shape: first_rows(screen, rows / 2) };
-        expect(&mut opened(screen, MOST_BLOCKS - 1), half(1), alone(number::NO_ROOM));
+        expect(&mut opened(layout, screen, MOST_BLOCKS - 1), half(1), alone(number::NO_ROOM));
 
-        let mut slot = opened(screen, MOST_BLOCKS);
+        let mut slot = opened(layout, screen, MOST_BLOCKS);
         expect(&mut slot, Call::Bin { id: 1, shape: first_rows(screen, rows) }, alone(number::NO_ROOM));
         expect(&mut slot, half(1), [0, 2048, 2048]);
         expect(&mut slot, half(2), [0, 2048, 0]);
@@ -235,8 +258,8 @@ fn a_shape_takes_2048_blocks_and_no_more() {
 }
 
 /// Whether a place is the first or the last of its block.
-fn ends_a_block(place: u32) -> bool {
-    [0, IDS - 1].contains(&(place % IDS))
+fn ends_a_block(ids_of_block: u32, place: u32) -> bool {
+    [0, ids_of_block - 1].contains(&(place % ids_of_block))
 }
 
 #[test]
@@ -244,74 +267,91 @@ fn chains_of_1_to_70_blocks_are_read_at_both_ends_of_each_block() {
     const CHAIN: u32 = 70;
     let screen = Screen { width: 16, ..ONE_TILE };
     let id = |tile, place| 2 * place + tile;
-    let mut slot = opened(screen, 2 * CHAIN);
-    for last in 0..CHAIN * IDS {
-        // the blocks of the two chains alternate
-        for tile in 0..2 {
-            expect(&mut slot, bin_at(screen, tile, id(tile, last)), [0, 1, u32::from(last % IDS == 0)]);
-        }
-        if !ends_a_block(last) {
-            continue;
-        }
-        for tile in 0..2 {
-            for place in (0..=last).filter(|&place| ends_a_block(place)) {
-                expect(&mut slot, Call::Read { tile, place }, [0, id(tile, place), 0]);
+    for layout in LAYOUTS {
+        let ids = layout.ids_of_block() as u32;
+        let mut slot = opened(layout, screen, 2 * CHAIN);
+        for last in 0..CHAIN * ids {
+            // the blocks of the two chains alternate
+            for tile in 0..2 {
+                expect(&mut slot, bin_at(screen, tile, id(tile, last)), [0, 1, u32::from(last % ids == 0)]);
             }
-            expect(&mut slot, Call::Read { tile, place: last + 1 }, alone(number::NO_PLACE));
-            expect(&mut slot, Call::HighWater { tile }, [0, last + 1, 0]);
+            if !ends_a_block(ids, last) {
+                continue;
+            }
+            for tile in 0..2 {
+                for place in (0..=last).filter(|&place| ends_a_block(ids, place)) {
+                    expect(&mut slot, Call::Read { tile, place }, [0, id(tile, place), 0]);
+                }
+                expect(&mut slot, Call::Read { tile, place: last + 1 }, alone(number::NO_PLACE));
+                expect(&mut slot, Call::HighWater { tile }, [0, last + 1, 0]);
+            }
         }
-    }
-    expect(&mut slot, bin_at(screen, 0, 0), alone(number::NO_ROOM));
-    for tile in 0..2 {
-        expect(&mut slot, Call::Release { tile }, [0, CHAIN, 0]);
-        expect(&mut slot, Call::HighWater { tile }, [0, CHAIN * IDS, 0]);
+        expect(&mut slot, bin_at(screen, 0, 0), alone(number::NO_ROOM));
+        for tile in 0..2 {
+            expect(&mut slot, Call::Release { tile }, [0, CHAIN, 0]);
+            expect(&mut slot, Call::HighWater { tile }, [0, CHAIN * ids, 0]);
+        }
     }
 }
 
 /// A tile is filled and released again and again; its mark is asked for after every call.
 #[test]
 fn a_mark_rises_only_past_itself_and_no_release_lowers_it() {
-    let mut slot = opened(ONE_TILE, 3);
-    let mut mark = 0;
-    for entries in [0, 3, 2, 3, 4, 0, 1, 31, 30, 32, 31, 93, 92, 1] {
-        for place in 0..entries {
-            expect(&mut slot, bin_at(ONE_TILE, 0, place), [0, 1, u32::from(place % IDS == 0)]);
-            mark = mark.max(place + 1);
+    for layout in LAYOUTS {
+        let ids = layout.ids_of_block() as u32;
+        let mut slot = opened(layout, ONE_TILE, 3);
+        let mut mark = 0;
+        for entries in [0, 3, 2, 3, 4, 0, 1, ids, ids - 1, ids + 1, ids, 3 * ids, 3 * ids - 1, 1] {
+            for place in 0..entries {
+                expect(&mut slot, bin_at(ONE_TILE, 0, place), [0, 1, u32::from(place % ids == 0)]);
+                mark = mark.max(place + 1);
+                expect(&mut slot, Call::HighWater { tile: 0 }, [0, mark, 0]);
+            }
+            if entries == 3 * ids {
+                expect(&mut slot, bin_at(ONE_TILE, 0, entries), alone(number::NO_ROOM));
+            }
+            expect(&mut slot, Call::Release { tile: 0 }, [0, entries.div_ceil(ids), 0]);
             expect(&mut slot, Call::HighWater { tile: 0 }, [0, mark, 0]);
         }
-        if entries == 93 {
-            expect(&mut slot, bin_at(ONE_TILE, 0, 93), alone(number::NO_ROOM));
-        }
-        expect(&mut slot, Call::Release { tile: 0 }, [0, entries.div_ceil(IDS), 0]);
-        expect(&mut slot, Call::HighWater { tile: 0 }, [0, mark, 0]);
+        assert_eq!(mark, 3 * ids);
+        expect(&mut slot, open(layout, ONE_TILE, 3), alone(number::DONE));
+        expect(&mut slot, Call::HighWater { tile: 0 }, [0, 0, 0]);
     }
-    assert_eq!(mark, 93);
-    expect(&mut slot, open(ONE_TILE, 3), alone(number::DONE));
-    expect(&mut slot, Call::HighWater { tile: 0 }, [0, 0, 0]);
 }
 
 #[test]
 fn the_longest_chain_has_2048_blocks() {
-    let full = MOST_BLOCKS * IDS;
-    let mut state = State::opened(ONE_TILE, MOST_BLOCKS);
-    state.tiles[0] =
-        Tile { blocks: state.free.drain(..).rev().collect(), ids: (0..full - 1).collect(), mark: full - 1 };
-    let mut slot = Slot::over(state.words(), MOST_BLOCKS);
-    expect(&mut slot, Call::Audit, alone(number::DONE));
-    expect(&mut slot, Call::Read { tile: 0, place: full - 1 }, alone(number::NO_PLACE));
-    expect(&mut slot, Call::HighWater { tile: 0 }, [0, full - 1, 0]);
-    expect(&mut slot, bin_at(ONE_TILE, 0, full - 1), [0, 1, 0]);
-    expect(&mut slot, Call::HighWater { tile: 0 }, [0, full, 0]);
-    // the ends of every fiftieth block, and of the last two
-    let looked_at = |place: u32| place / IDS % 50 == 0 || place / IDS >= MOST_BLOCKS - 2;
-    for place in (0..full).filter(|&place| ends_a_block(place) && looked_at(place)) {
-        expect(&mut slot, Call::Read { tile: 0, place }, [0, place, 0]);
+    for layout in LAYOUTS {
+        let ids = layout.ids_of_block() as u32;
+        let full = MOST_BLOCKS * ids;
+        let mut state = State::opened(layout, ONE_TILE, MOST_BLOCKS);
+        state.tiles[0] =
+            Tile { blocks: state.free.drain(..).rev().collect(), ids: (0..full - 1).collect(), mark: full - 1 };
+        let mut slot = Slot::over(state.words(), MOST_BLOCKS);
+        expect(&mut slot, Call::Audit, alone(number::DONE));
+        expect(&mut slot, Call::Read { tile: 0, place: full - 1 }, alone(number::NO_PLACE));
+        expect(&mut slot, Call::HighWater { tile: 0 }, [0, full - 1, 0]);
+        expect(&mut slot, bin_at(ONE_TILE, 0, full - 1), [0, 1, 0]);
+        expect(&mut slot, Call::HighWater { tile: 0 }, [0, full, 0]);
+        // the ends of every fiftieth block, and of the last two
+        let looked_at = |place: u32| place / ids % 50 == 0 || place / ids >= MOST_BLOCKS - 2;
+        for place in (0..full).filter(|&place| ends_a_block(ids, place) && looked_at(place)) {
+            expect(&mut slot, Call::Read { tile: 0, place }, [0, place, 0]);
+        }
+        expect(&mut slot, Call::Read { tile: 0, place: full }, alone(number::NO_PLACE));
+        expect(&mut slot, bin_at(ONE_TILE, 0, full), alone(number::NO_ROOM));
+        expect(&mut slot, Call::Release { tile: 0 }, [0, MOST_BLOCKS, 0]);
+        expect(&mut slot, bin_at(ONE_TILE, 0, 0), [0, 1, 1]);
+        expect(&mut slot, Call::HighWater { tile: 0 }, [0, full, 0]);
     }
-    expect(&mut slot, Call::Read { tile: 0, place: full }, alone(number::NO_PLACE));
-    expect(&mut slot, bin_at(ONE_TILE, 0, full), alone(number::NO_ROOM));
-    expect(&mut slot, Call::Release { tile: 0 }, [0, MOST_BLOCKS, 0]);
-    expect(&mut slot, bin_at(ONE_TILE, 0, 0), [0, 1, 1]);
-    expect(&mut slot, Call::HighWater { tile: 0 }, [0, full, 0]);
+}
+
+/// The wrapper's room for a pool of this layout.
+fn wrapper_room(layout: Layout, screen: Screen, blocks: u32) -> Result<usize, Refusal> {
+    match layout {
+        Layout::One => flourscoop::room(screen_of(screen), blocks),
+        Layout::Two { block_words } => flourscoop::room_two(screen_of(screen), blocks, block_words),
+    }
 }
 
 #[test]
@@ -322,24 +362,27 @@ fn the_wrapper_s_room_is_what_open_needs() {
     let screens = extents
         .iter()
         .flat_map(|&width| extents.iter().flat_map(move |&height| exponents.map(|s| Screen { width, height, s })));
-    let mut words = vec![0; 8 + 4 * 4096 + 32 * 2048];
-    let mut accepted = 0;
-    for (screen, blocks) in screens.flat_map(|screen| [0, 1, 2047, 2048, 2049, u32::MAX].map(|blocks| (screen, blocks)))
-    {
-        let case = format!("{screen:?} with {blocks} blocks");
-        let said = flourscoop::room(screen_of(screen), blocks);
-        let model = State::open(usize::MAX, screen, blocks).map(|_| room(screen, blocks));
-        assert_eq!(said.map_err(Refusal::number), model, "{case}");
+    let pools: Vec<_> =
+        screens.flat_map(|screen| [0, 1, 2047, 2048, 2049, u32::MAX].map(|blocks| (screen, blocks))).collect();
+    let mut words = vec![0; 10 + 4 * 4096 + 64 * 2048];
+    for layout in LAYOUTS.into_iter().chain(bad_layouts()) {
+        let mut accepted = 0;
+        for &(screen, blocks) in &pools {
+            let case = format!("{screen:?} with {blocks} blocks in {layout:?}");
+            let said = wrapper_room(layout, screen, blocks);
+            let model = State::open(usize::MAX, layout, screen, blocks).map(|_| layout.room(screen, blocks));
+            assert_eq!(said.map_err(Refusal::number), model, "{case}");
 
-        let all = words.len();
-        let mut open = |length: usize| raw::open(&mut words[..length], screen_of(screen), blocks).done();
-        match said {
-            Ok(room) => {
-                accepted += 1;
-                assert_eq!((open(room), open(room - 1)), (Ok([]), Err(Refusal::Short)), "{case}");
+            let all = words.len();
+            let mut open = |length: usize| call::open(&mut words[..length], layout, screen, blocks).done();
+            match said {
+                Ok(room) => {
+                    accepted += 1;
+                    assert_eq!((open(room), open(room - 1)), (Ok([]), Err(Refusal::Short)), "{case}");
+                }
+                Err(refusal) => assert_eq!(open(all), Err(refusal), "{case}"),
             }
-            Err(refusal) => assert_eq!(open(all), Err(refusal), "{case}"),
         }
+        assert_eq!(accepted > 500, layout.allowed(), "{accepted} of these are accepted in {layout:?}");
     }
-    assert!(accepted > 500, "{accepted} of these should be within the rules");
 }

@@ -1,9 +1,12 @@
-//! How many blocks a list of calls needs. As many as its marks ask for are enough; as many as were in use at once are just
-//! enough.
+//! How many blocks a list of calls needs, in each layout. As many as its marks ask for are enough; as many as were in use at
+//! once are just enough.
+
+use std::collections::BTreeMap;
 
 use flourscoop::raw;
+use model::layout::{Layout, LAYOUTS};
 use model::number;
-use model::pool::{room, IDS_OF_BLOCK, MOST_BLOCKS};
+use model::pool::MOST_BLOCKS;
 use model::screen::Screen;
 use tests::call::{Blocks, Call, Outcome, Repeated, Slot};
 use tests::generate::{self, cut_screens};
@@ -14,6 +17,7 @@ use tests::smaller::{self, fewer};
 /// Calls on a pool, after its opening.
 #[derive(Clone, Debug)]
 struct List {
+    layout: Layout,
     screen: Screen,
     calls: Vec<Repeated>,
 }
@@ -25,22 +29,24 @@ struct Needs {
     at_once: u32,
 }
 
-fn opened(screen: Screen, blocks: u32) -> Slot {
-    let mut slot = Slot::over(vec![0; room(screen, blocks)], blocks);
-    assert_eq!(slot.call(&Call::Open { screen, blocks: Blocks::Own }), Ok([number::DONE, 0, 0]));
-    slot
-}
-
 /// The mark of each tile, as the archive tells it.
 fn marks(slot: &Slot) -> Vec<u32> {
     (0..).map_while(|tile| raw::high_water(&slot.words, tile).done().ok()).map(|[mark]| mark).collect()
 }
 
 impl List {
+    /// A pool with so many blocks.
+    fn opened(&self, blocks: u32) -> Slot {
+        let &List { layout, screen, .. } = self;
+        let mut slot = Slot::over(vec![0; layout.room(screen, blocks)], blocks);
+        assert_eq!(slot.call(&Call::Open { layout, screen, blocks: Blocks::Own }), Ok([number::DONE, 0, 0]));
+        slot
+    }
+
     /// Whether a pool with so many blocks gives these calls these answers, and has these marks in the end. Where not, it has
     /// refused one for room.
     fn enough(&self, blocks: u32, made: &[(&Call, Outcome)], all_marks: &[u32]) -> Result<bool, String> {
-        let mut slot = opened(self.screen, blocks);
+        let mut slot = self.opened(blocks);
         for &(call, answer) in made {
             let other = slot.call(call)?;
             if other[0] == number::NO_ROOM {
@@ -61,6 +67,8 @@ impl Case for List {
     type Seen = Needs;
 
     fn make(random: &Random, place: u64) -> List {
+        let layout = generate::layout(place);
+        let ids_of_block = layout.ids_of_block() as u32;
         let screen = match place % 20 {
             0 => random.pick(&cut_screens()),
             10 => generate::screen(random, 24),
@@ -68,16 +76,18 @@ impl Case for List {
         };
         let call = |_| match random.below(4) {
             0 => Call::Release { tile: generate::tile(random, screen) },
-            _ => Call::make(random, screen),
+            _ => Call::make(random, layout, screen),
         };
         let calls = (0..4 + random.below(20)).map(call).filter(|call| !matches!(call, Call::Open { .. }));
-        List { screen, calls: calls.map(|call| Repeated(random.pick(&[1, 1, 1, 1, 1, 2, 5, 31, 40]), call)).collect() }
+        let times = || random.pick(&[1, 1, 1, 1, 1, 2, 5, ids_of_block, ids_of_block + 9]);
+        List { layout, screen, calls: calls.map(|call| Repeated(times(), call)).collect() }
     }
 
     fn smaller(&self) -> Vec<List> {
         let with_calls = |calls| List { calls, ..self.clone() };
         let mut all: Vec<_> = fewer(&self.calls).into_iter().map(with_calls).collect();
         all.extend(smaller::screens(self.screen).into_iter().map(|screen| List { screen, ..self.clone() }));
+        all.extend(smaller::layouts(self.layout).into_iter().map(|layout| List { layout, ..self.clone() }));
         all.extend(smaller::each(&self.calls, Repeated::smaller).into_iter().map(with_calls));
         all
     }
@@ -85,7 +95,7 @@ impl Case for List {
     /// Makes the calls in a pool of 2,048 blocks and, less those that it has no room for, in pools with as many blocks as the
     /// marks ask for, as were in use at once, and with a block more and less.
     fn run(&self) -> Result<Needs, String> {
-        let mut largest = opened(self.screen, MOST_BLOCKS);
+        let mut largest = self.opened(MOST_BLOCKS);
         let (mut made, mut at_once) = (Vec::new(), 0);
         for call in Repeated::each(&self.calls) {
             let answer = largest.on_archive(call);
@@ -95,7 +105,7 @@ impl Case for List {
             at_once = at_once.max(MOST_BLOCKS - largest.words[4]);
         }
         let marks = marks(&largest);
-        let by_marks = marks.iter().map(|mark| mark.div_ceil(IDS_OF_BLOCK as u32)).sum();
+        let by_marks = marks.iter().map(|mark| mark.div_ceil(self.layout.ids_of_block() as u32)).sum();
         let around = [by_marks, at_once].into_iter().flat_map(|blocks| [blocks.saturating_sub(1), blocks, blocks + 1]);
         for blocks in around.filter(|&blocks| blocks <= MOST_BLOCKS) {
             let enough = self.enough(blocks, &made, &marks)?;
@@ -112,22 +122,26 @@ impl Case for List {
 
 #[test]
 fn as_many_blocks_as_the_marks_ask_for_are_enough() {
-    let (mut tight, mut loose, mut most) = (0, 0, 0);
-    hold(0xF100_0006, 1000, |_: &List, needs| {
-        tight += u32::from(needs.by_marks == needs.at_once && needs.at_once > 0);
-        loose += u32::from(needs.by_marks > needs.at_once);
-        most = most.max(needs.by_marks);
+    let mut seen: BTreeMap<Layout, [u32; 3]> = BTreeMap::new();
+    hold(0xF100_0006, 1000, |list: &List, needs| {
+        let [tight, loose, most] = seen.entry(list.layout).or_default();
+        *tight += u32::from(needs.by_marks == needs.at_once && needs.at_once > 0);
+        *loose += u32::from(needs.by_marks > needs.at_once);
+        *most = needs.by_marks.max(*most);
     });
-    println!("{tight} lists need as many blocks as the marks ask for, {loose} fewer; the marks ask for {most} at most");
-    assert!(tight > 200, "a block less than the marks ask for should often be refused");
-    assert!(loose > 200, "lists that give blocks back should be common");
-    assert!(most > 200, "some lists should fill many tiles");
+    println!("lists that need what the marks ask for, lists that need less, and the most blocks asked for: {seen:?}");
+    assert_eq!(seen.len(), LAYOUTS.len());
+    for [tight, loose, most] in seen.into_values() {
+        assert!(tight > 100, "a block less than the marks ask for should often be refused");
+        assert!(loose > 60, "lists that give blocks back should be common");
+        assert!(most > 100, "some lists should fill many tiles");
+    }
 }
 
 /// Calls on a screen of two tiles.
-fn on_two_tiles(calls: &[(u32, Call)]) -> List {
+fn on_two_tiles(layout: Layout, calls: &[(u32, Call)]) -> List {
     let calls = calls.iter().map(|(times, call)| Repeated(*times, call.clone())).collect();
-    List { screen: Screen { width: 16, height: 8, s: 3 }, calls }
+    List { layout, screen: Screen { width: 16, height: 8, s: 3 }, calls }
 }
 
 fn point_in(tile: i32) -> Call {
@@ -136,15 +150,21 @@ fn point_in(tile: i32) -> Call {
 
 #[test]
 fn without_a_release_a_block_less_is_refused() {
-    let list = on_two_tiles(&[(32, point_in(0)), (1, point_in(1))]);
-    assert_eq!(list.run(), Ok(Needs { by_marks: 3, at_once: 3 }));
-    let mut slot = opened(list.screen, 2);
-    let numbers: Vec<u32> = Repeated::each(&list.calls).map(|call| slot.call(call).unwrap()[0]).collect();
-    assert_eq!(numbers, [&[number::DONE; 32][..], &[number::NO_ROOM]].concat());
+    for layout in LAYOUTS {
+        let one_more = layout.words_of_block();
+        let list = on_two_tiles(layout, &[(one_more as u32, point_in(0)), (1, point_in(1))]);
+        assert_eq!(list.run(), Ok(Needs { by_marks: 3, at_once: 3 }), "{layout:?}");
+        let mut slot = list.opened(2);
+        let numbers: Vec<u32> = Repeated::each(&list.calls).map(|call| slot.call(call).unwrap()[0]).collect();
+        assert_eq!(numbers, [vec![number::DONE; one_more], vec![number::NO_ROOM]].concat(), "{layout:?}");
+    }
 }
 
 #[test]
 fn what_a_tile_gives_back_another_takes() {
-    let list = on_two_tiles(&[(32, point_in(0)), (1, Call::Release { tile: 0 }), (40, point_in(1))]);
-    assert_eq!(list.run(), Ok(Needs { by_marks: 4, at_once: 2 }));
+    for layout in LAYOUTS {
+        let one_more = layout.words_of_block() as u32;
+        let list = [(one_more, point_in(0)), (1, Call::Release { tile: 0 }), (one_more + 8, point_in(1))];
+        assert_eq!(on_two_tiles(layout, &list).run(), Ok(Needs { by_marks: 4, at_once: 2 }), "{layout:?}");
+    }
 }

@@ -1,8 +1,11 @@
-//! Mixed calls on two pools of different sizes: every answer and every word against the model, every mark against the lengths
-//! that its list had, and demand 3.
+//! Mixed calls on two pools of different sizes, in each layout: every answer and every word against the model, every mark
+//! against the lengths that its list had, and demand 3.
 
+use std::collections::BTreeMap;
+
+use model::layout::{Layout, LAYOUTS};
 use model::number;
-use model::pool::{block_at, mark_at, room, State, IDS_OF_BLOCK, POISON};
+use model::pool::{State, POISON};
 use model::screen::Screen;
 use tests::call::{Blocks, Call, Outcome, Repeated, Slot};
 use tests::generate::{self, cut_screens, rarest_cut};
@@ -12,12 +15,13 @@ use tests::random::Random;
 use tests::smaller::{self, fewer};
 use tests::square::{cut_both_ways, squares_touched};
 
-/// Calls on two pools for one screen, the second with at least as many blocks as the first.
+/// Calls on two pools of one layout for one screen, the second with at least as many blocks as the first.
 #[derive(Clone, Debug)]
 struct Sequence {
+    layout: Layout,
     screen: Screen,
     blocks: [u32; 2],
-    /// words past the room that each pool needs
+    /// words past the room that each pool needs for any of its openings
     tails: [usize; 2],
     calls: Vec<Repeated>,
 }
@@ -26,22 +30,23 @@ struct Sequence {
 struct Sizes {
     screen: Screen,
     blocks: [u32; 2],
-    times: &'static [u32],
+    times: Vec<u32>,
 }
 
 impl Sizes {
-    fn usual(random: &Random) -> Sizes {
+    /// A few tiles, in which the same call again and again makes chains.
+    fn usual(random: &Random, ids_of_block: u32) -> Sizes {
         let first = random.below(24);
         let blocks = [first, first + 1 + random.below(12)];
-        // the same call again and again makes chains
-        Sizes { screen: generate::screen(random, 4), blocks, times: &[1, 1, 1, 1, 1, 1, 1, 2, 3, 31, 34] }
+        let times = vec![1, 1, 1, 1, 1, 1, 1, 2, 3, ids_of_block, ids_of_block + 3];
+        Sizes { screen: generate::screen(random, 4), blocks, times }
     }
 
     /// A screen that ends inside its last tiles along both axes.
     fn cut(random: &Random) -> Sizes {
         let first = random.below(random.pick(&[24, 600]));
         let blocks = [first, first + random.below(600)];
-        Sizes { screen: random.pick(&cut_screens()), blocks, times: &[1, 1, 1, 2] }
+        Sizes { screen: random.pick(&cut_screens()), blocks, times: vec![1, 1, 1, 2] }
     }
 
     /// As large as a pool can be, or nearly.
@@ -49,14 +54,15 @@ impl Sizes {
         let screen = random.pick(&[generate::full_screen(random), generate::screen(random, 512)]);
         let first = random.pick(&[1024, 2047, random.below(2049)]);
         let second = random.pick(&[2048, 2048 - random.below(2049 - first)]);
-        Sizes { screen, blocks: [first, second], times: &[1, 1, 2] }
+        Sizes { screen, blocks: [first, second], times: vec![1, 1, 2] }
     }
 
     /// Few tiles with long chains.
-    fn long(random: &Random) -> Sizes {
+    fn long(random: &Random, ids_of_block: u32) -> Sizes {
         let first = 60 + random.below(60);
         let blocks = [first, first + random.below(30)];
-        Sizes { screen: generate::screen(random, 2), blocks, times: &[1, 1, 31, 310, 1400] }
+        let times = vec![1, 1, ids_of_block, 10 * ids_of_block, 45 * ids_of_block + 5];
+        Sizes { screen: generate::screen(random, 2), blocks, times }
     }
 }
 
@@ -74,21 +80,23 @@ impl Case for Sequence {
     type Seen = Seen;
 
     fn make(random: &Random, place: u64) -> Sequence {
+        let layout = generate::layout(place);
+        let ids_of_block = layout.ids_of_block() as u32;
         let sizes = match place % 1000 {
             0 => Sizes::large(random),
-            500 => Sizes::long(random),
+            500 => Sizes::long(random, ids_of_block),
             place if place % 50 == 25 => Sizes::cut(random),
-            _ => Sizes::usual(random),
+            _ => Sizes::usual(random, ids_of_block),
         };
         let Sizes { screen, blocks, times } = sizes;
         let early = random.pick(&[0, 0, 0, 0, 0, 0, 0, 1, 3]);
-        let mut calls: Vec<_> = (0..early).map(|_| Repeated(1, Call::make(random, screen))).collect();
-        calls.push(Repeated(1, Call::Open { screen, blocks: Blocks::Own }));
+        let mut calls: Vec<_> = (0..early).map(|_| Repeated(1, Call::make(random, layout, screen))).collect();
+        calls.push(Repeated(1, Call::Open { layout, screen, blocks: Blocks::Own }));
         for _ in 0..2 + random.below(14) {
-            calls.push(Repeated(random.pick(times), Call::make(random, screen)));
+            calls.push(Repeated(random.pick(&times), Call::make(random, layout, screen)));
         }
         let tails = [random.below(4) as usize, random.below(4) as usize];
-        Sequence { screen, blocks, tails, calls }
+        Sequence { layout, screen, blocks, tails, calls }
     }
 
     fn smaller(&self) -> Vec<Sequence> {
@@ -96,7 +104,8 @@ impl Case for Sequence {
         let blocks = [[self.blocks[0] / 2, self.blocks[1]], [self.blocks[0], self.blocks[0]]];
         let with_blocks = |blocks| Sequence { blocks, ..self.clone() };
         let mut all: Vec<_> = fewer(&self.calls).into_iter().map(with_calls).collect();
-        all.extend(smaller::screens(self.screen).into_iter().map(|screen| self.on(screen)));
+        all.extend(smaller::screens(self.screen).into_iter().map(|screen| self.on(self.layout, screen)));
+        all.extend(smaller::layouts(self.layout).into_iter().map(|layout| self.on(layout, self.screen)));
         all.extend(blocks.into_iter().filter(|&fewer| fewer != self.blocks).map(with_blocks));
         all.extend(smaller::each(&self.calls, Repeated::smaller).into_iter().map(with_calls));
         all
@@ -133,13 +142,17 @@ impl Case for Sequence {
 }
 
 impl Sequence {
-    /// The same on another screen.
-    fn on(&self, screen: Screen) -> Sequence {
-        let mut other = Sequence { screen, ..self.clone() };
+    /// The same with another layout and screen.
+    fn on(&self, layout: Layout, screen: Screen) -> Sequence {
+        let mut other = Sequence { layout, screen, ..self.clone() };
         for Repeated(_, call) in &mut other.calls {
-            match call {
-                Call::Open { screen: opened, .. } if *opened == self.screen => *opened = screen,
-                _ => {}
+            if let Call::Open { layout: own, screen: opened, .. } = call {
+                if *own == self.layout {
+                    *own = layout;
+                }
+                if *opened == self.screen {
+                    *opened = screen;
+                }
             }
         }
         other
@@ -158,45 +171,64 @@ impl Sequence {
 
     /// A pool's slot before it is opened: words that say nothing.
     fn slot(&self, pool: usize) -> Slot {
-        let words = room(self.screen, self.blocks[pool]) + self.tails[pool];
+        let room = |Repeated(_, call): &Repeated| match call {
+            Call::Open { layout, .. } if layout.allowed() => layout.room(self.screen, self.blocks[pool]),
+            _ => 0,
+        };
+        let words = self.calls.iter().map(room).max().unwrap_or(0) + self.tails[pool];
         Slot::over((0..words as u32).map(|at| at.wrapping_mul(0x9E37_79B9)).collect(), self.blocks[pool])
     }
 
-    /// Demand 3 of two pools that are opened: all lists and marks agree, the second has more free blocks by the difference
-    /// at the opening, and the id places of its extra blocks hold poison.
+    /// Demand 3 of two pools that are opened: both have one layout, all lists and marks agree, the second has more free blocks
+    /// by the difference at the opening, and the id places of its extra blocks hold poison.
     fn agree(&self, first: &Slot, second: &Slot) -> Result<(), String> {
         let (Some(one), Some(two)) = (&first.state, &second.state) else {
             return Ok(());
         };
+        if one.layout != two.layout {
+            return Err("the layouts differ".into());
+        }
         if one.tiles.iter().zip(&two.tiles).any(|(one, two)| one.ids != two.ids) {
             return Err("the lists differ".into());
         }
-        if let Some(at) = (0..one.screen.tiles()).map(mark_at).find(|&at| first.words[at] != second.words[at]) {
+        let mut marks = (0..one.screen.tiles()).map(|tile| one.layout.mark_at(tile));
+        if let Some(at) = marks.find(|&at| first.words[at] != second.words[at]) {
             return Err(format!("the marks in word {at} differ"));
         }
         if second.words[4] - first.words[4] != two.blocks - one.blocks {
             return Err(format!("the first has {} free blocks, the second {}", first.words[4], second.words[4]));
         }
-        let ids = |block| {
-            let at = block_at(two.screen, block);
-            &second.words[at..at + IDS_OF_BLOCK]
-        };
-        match (one.blocks..two.blocks).find(|&block| ids(block).iter().any(|&word| word != POISON)) {
+        let places = |block| &second.words[two.layout.places_at(two.screen, block)];
+        match (one.blocks..two.blocks).find(|&block| places(block).iter().any(|&word| word != POISON)) {
             Some(block) => Err(format!("extra block {block} holds an id")),
             None => Ok(()),
         }
     }
 }
 
+/// What the sequences of a layout reached.
+#[derive(Default, Debug)]
+struct Reached {
+    /// the calls on the first pool, by the number that they return
+    numbers: [u64; 11],
+    /// the most blocks that a chain had
+    chain: usize,
+    /// how many have a second pool with 4,096 tiles and 2,048 blocks
+    largest: u32,
+    /// after how many calls a mark is above the entries of its tile
+    shorter: u64,
+}
+
 #[test]
 fn two_pools_answer_and_hold_as_the_model() {
-    let (mut numbers, mut chain, mut largest, mut shorter) = ([0u64; 11], 0, 0, 0);
+    let mut reached: BTreeMap<Layout, Reached> = BTreeMap::new();
     let (mut cut, mut in_fewer_tiles, mut screens) = (0, 0, Vec::new());
-    hold(0xF100_0002, 20_000, |case: &Sequence, seen: Seen| {
-        seen.answers.iter().for_each(|answer| numbers[answer[0] as usize] += 1);
-        chain = chain.max(seen.chain);
-        shorter += seen.shorter;
-        largest += u32::from(case.screen.tiles() == 4096 && case.blocks[1] == 2048);
+    hold(0xF100_0002, 30_000, |case: &Sequence, seen: Seen| {
+        let reached = reached.entry(case.layout).or_default();
+        seen.answers.iter().for_each(|answer| reached.numbers[answer[0] as usize] += 1);
+        reached.chain = reached.chain.max(seen.chain);
+        reached.largest += u32::from(case.screen.tiles() == 4096 && case.blocks[1] == 2048);
+        reached.shorter += seen.shorter;
         screens.push(case.screen);
         if cut_both_ways(case.screen) {
             cut += 1;
@@ -204,14 +236,15 @@ fn two_pools_answer_and_hold_as_the_model() {
         }
     });
     let rarest = rarest_cut(&screens);
-    println!("calls on the first pool, by the number that they return: {numbers:?}");
-    println!("the longest chain has {chain} blocks; {largest} pools have 4,096 tiles and 2,048 blocks");
-    println!("after {shorter} of them a mark is above the entries of its tile");
+    reached.iter().for_each(|(layout, reached)| println!("{layout:?}: {reached:?}"));
     println!("{cut} sequences are on screens cut on both axes; each of the cut screens comes {rarest} times or more");
     println!("{in_fewer_tiles} shapes on these were listed in fewer tiles than full squares would have it");
-    assert!(numbers.iter().all(|&calls| calls > 500), "each number should be returned often");
-    assert!(chain > 40 && largest > 3, "long chains and largest pools should be there");
-    assert!(shorter > 100_000, "lists should often be shorter than they had been");
-    assert!(cut > 5000 && rarest > 3, "screens that are cut on both axes should be common");
+    assert_eq!(reached.len(), LAYOUTS.len());
+    for Reached { numbers, chain, largest, shorter } in reached.into_values() {
+        assert!(numbers.iter().all(|&calls| calls > 500), "each number should be returned often");
+        assert!(chain > 40 && largest > 1, "long chains and largest pools should be there");
+        assert!(shorter > 60_000, "lists should often be shorter than they had been");
+    }
+    assert!(cut > 10_000 && rarest > 3, "screens that are cut on both axes should be common");
     assert!(in_fewer_tiles > 5000, "it should often matter that tiles are cut");
 }

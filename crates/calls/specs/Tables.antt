@@ -1,6 +1,6 @@
 -- The decision tables of the public calls, a row for each number in the order in which it is given. A row has its cause, with no earlier one applying, and
--- then the whole outcome: the answer a, and the words q that are left of the words p, whose layout is the one that they say. The table of open stands beside the words that it leaves, in the
--- crate `pool`, and those of the questions about touching in Questions.
+-- then the whole outcome: the answer a, and the words q that are left of the words p. These are read in the layout that they say. The table of open stands
+-- beside the words that it leaves, in the crate `pool`, and those of the questions about touching in Questions.
 use mathlib.Core.Path.{_≡_}
 use mathlib.Core.List.{List}
 use Prim.Native.Nat.{ℕ, _≤_, _<_}

@@ -34,15 +34,17 @@ chains-right-requires c κs =
     (omega (arith, o, s .pre .fair .header>), omega (arith, o, h), omega (arith, o, h), omega (arith, o, h), c .before .before .before .before .pre)
 
 returns-2 : tie.Need-returns-2
-returns-2 c = λ s.
+returns-2 c = λ sound.
+    let s = c .before .before .before .before .before .before in
     let h = c .before .before .header-of .ensures in
     c .before .chains-right .ensures .no (not-true _ (c .if2 .taken))
-    (right-sound (layoutFor (c .before .before .before .before .before .before .args .layout)) (c .before .before .before .before .before .before .pre .fair .ids>) (now (c .before .before .before .before .before .before .args .pool)) (h .start) (h .blocks) (h .tiles) s)
+    (right-sound (layoutFor (s .args .layout)) (s .pre .fair .ids>) (now (s .args .pool)) (h .start) (h .blocks) (h .tiles) sound)
 
 returns-3 : tie.Need-returns-3
 returns-3 c =
+    let s = c .before .before .before .before .before .before in
     let h = c .before .before .header-of .ensures in (
-      sound-right (layoutFor (c .before .before .before .before .before .before .args .layout)) (c .before .before .before .before .before .before .pre .fair .ids>) (now (c .before .before .before .before .before .before .args .pool)) (h .start) (h .blocks) (h .tiles) (header-right (c .before .before .before))
+      sound-right (layoutFor (s .args .layout)) (s .pre .fair .ids>) (now (s .args .pool)) (h .start) (h .blocks) (h .tiles) (header-right (c .before .before .before))
           (c .before .chains-right .ensures .yes (not-false _ (c .if2 .left))),
       h,
     )

@@ -16,12 +16,18 @@ use Rattle.audit.proofs.opened.Tie as tie
 screened : (c : tie.Else2) → Allowed (screenOf (now (c .before .before .before .before .before .before .args .pool)))
 screened c = rw (c .before .before .screen-of .ensures) at (c .before .allowed .ensures .yes (not-false _ (c .if2 .left)))
 
+-- from where the room is asked for back to the header, and to the start
+abbrev to-header : tie.After-room-of → tie.After-header-of
+to-header c = c .before .before .before .before .before .before .before .before .before .before .before .before .before .before .before
+
+abbrev to-start : tie.After-room-of → tie.Start
+to-start c = to-header c .before .before .before .before .before .before .before
+
 -- the room that is asked for is that of the header
-needed : (c : tie.After-room-of) → let a = c .before .before .before .before .before .before .before .before .before .before .before .before .before .before .before .before .before .before .before .before .before .before .args in
-    c .room-of .result ≡ room (layoutFor (a .layout)) (tilesOf (now (a .pool))) (blocksOf (now (a .pool)))
+needed : (c : tie.After-room-of) → let a = to-start c .args in c .room-of .result ≡ room (layoutFor (a .layout)) (tilesOf (now (a .pool))) (blocksOf (now (a .pool)))
 needed c =
-    let header = c .before .before .before .before .before .before .before .before .before .before .before .before .before .before .before .header-of .ensures in
-    c .room-of .ensures ∙ ap₂ (room (layoutFor (c .before .before .before .before .before .before .before .before .before .before .before .before .before .before .before .before .before .before .before .before .before .before .args .layout))) (c .before .before .wide3 .ensures ∙ header .tiles) (c .before .wide4 .ensures ∙ header .blocks)
+    let header = to-header c .header-of .ensures in
+    c .room-of .ensures ∙ ap₂ (room (layoutFor (to-start c .args .layout))) (c .before .before .wide3 .ensures ∙ header .tiles) (c .before .wide4 .ensures ∙ header .blocks)
 
 returns : tie.Need-returns
 unfolding room start

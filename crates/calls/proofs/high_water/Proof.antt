@@ -31,8 +31,11 @@ mark-requires c κs = let k = told-sound (c .before .before .before .before .bef
 
 returns-3 : tie.Need-returns-3
 returns-3 c =
-    let k = told-sound (c .before .before .before .before .before .before .audited .given .1) (c .before .before .before .before .before .before .before .before .audit .ensures) in
-    done (k .0) (a-tile k (c .before .before .if1 .left)) (λ i. record { number = 0; entries = (c .mark .ensures ∙ ap (λ (L : Layout). tileWord L (now (c .before .before .before .before .before .before .before .before .before .before .args .pool)) (c .before .before .before .before .before .before .before .before .before .before .args .tile .0) 3) (k .1 .layout)) i })
+    let told = c .before .before .before .before .before .before in
+    let k = told-sound (told .audited .given .1) (told .before .before .audit .ensures) in
+    let a = told .before .before .before .before .args in
+    let mark = c .mark .ensures ∙ ap (λ (L : Layout). tileWord L (now (a .pool)) (a .tile .0) 3) (k .1 .layout) in
+    done (k .0) (a-tile k (c .before .before .if1 .left)) (λ i. record { number = 0; entries = mark i })
 
 pub high-water-spec : {M : Type 1} → statement M
 high-water-spec =

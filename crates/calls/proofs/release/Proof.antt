@@ -42,12 +42,14 @@ same-length-3 c = search needs
 
 returns-3 : tie.Need-returns-3
 returns-3 c =
-    let k = told-sound (c .before .before .before .before .before .before .before .before .before .audited .given .1) (c .before .before .before .before .before .before .before .before .before .before .before .audit .ensures) in
-    let s = c .before .before .before .before .before .before .before .before .before .before .before .before .before .before .args in
+    let told = c .before .before .before .before .before .before .before .before .before in
+    let k = told-sound (told .audited .given .1) (told .before .before .audit .ensures) in
+    let s = told .before .before .before .before .before .args in
     let l = c .before .before .before .before .before .if1 .left in
     let r = c .before .before .release .ensures in
-    done (k .0) (a-tile k l)
-    (λ i. record { number = 0; blocks = (r .1 ∙ ap (λ (L : Layout). ceil (tileWord L (s .pool .now) (s .tile .0) 0) (L .ids)) (k .1 .layout) ∙ ap (λ (q : ℕ). ceil q (layoutOf (s .pool .now) .ids)) (entries-are k l)) i })
+    let blocks =
+    r .1 ∙ ap (λ (L : Layout). ceil (tileWord L (s .pool .now) (s .tile .0) 0) (L .ids)) (k .1 .layout) ∙ ap (λ (q : ℕ). ceil q (layoutOf (s .pool .now) .ids)) (entries-are k l) in
+    done (k .0) (a-tile k l) (λ i. record { number = 0; blocks = blocks i })
     (r .0 ∙ ap₂ (λ (L : Layout) (n : ℕ). release L n (s .pool .now) (s .tile .0)) (k .1 .layout) (c .before .before .before .wide .ensures ∙ k .1 .tiles))
 
 pub release-spec : {M : Type 1} → statement M

@@ -1,7 +1,5 @@
 -- `audit::audit`: the audit as the layout that the words say. A slice that is shorter than the shortest header is no pool of any.
 use mathlib.Core.Path.{sym, subst}
-use mathlib.Core.List.{List}
-use Prim.Native.Nat.{ℕ}
 use native.Mathlib.Omega.{arith}
 use denote.Ref.{now}
 use Rattle.pool.specs.Words.{Layout, start, room}

@@ -7,7 +7,6 @@ use Rattle.pool.specs.Sound.{Opened}
 use Rattle.pool.specs.Editions.{layoutFor}
 use Rattle.audit.proofs.Answers.{header-fits}
 use Rattle.audit.proofs.Whole.{sound-right, right-sound}
-use borrow.Author.Needs.{needs}
 use Rattle.audit.proofs.audit_as.Statement.{statement}
 use Rattle.audit.proofs.audit_as.Tie as tie
 

@@ -1,5 +1,4 @@
 -- `audit::rest_right` tests the two words that the second edition's header has more.
-use mathlib.Core.Path.{_≡_}
 use native.Mathlib.Omega.{arith}
 use borrow.Author.Needs.{needs}
 use borrow.Author.Tests.{eqb-true, eqb-false}

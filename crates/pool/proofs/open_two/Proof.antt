@@ -1,11 +1,10 @@
 -- `open_two`: 32 and 64 are the block sizes that there are; any other is a cause for 2.
-use mathlib.Core.Path.{_≡_, refl, sym, subst}
+use mathlib.Core.Path.{refl}
 use mathlib.Core.Logic.{_≢_, inr, ⊎-elim}
 use Prim.Native.Nat.{ℕ}
 use borrow.Author.Needs.{needs}
-use denote.Ref.{now}
 use Rattle.pool.specs.Words.{second, Known, two-32, two-64}
-use Rattle.pool.specs.Opening.{OpenSays, bad-screen, bad-blocks}
+use Rattle.pool.specs.Opening.{bad-screen, bad-blocks}
 use Rattle.pool.proofs.Editions.{known-second}
 use Rattle.pool.proofs.open_two.Statement.{statement}
 use Rattle.pool.proofs.open_two.Tie as tie

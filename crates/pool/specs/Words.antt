@@ -24,7 +24,7 @@ edition = record { header = 8; tile = 4; ids = 31; limit = 16777216; poison = 0x
 
 -- the second edition, by the words of a block: the header has ten, and all but the last of a block are for ids
 abbrev pub second : (words : ℕ) → Layout
-second words = record { header = 10; tile = 4; ids = words - 1; limit = 16777216; poison = 0xDEADBEEF }
+second words = record { header = 10; tile = edition .tile; ids = words - 1; limit = edition .limit; poison = edition .poison }
 
 -- the layouts that there are
 pub data Known : Layout → Type 0 where

@@ -20,16 +20,8 @@ pub struct Edition {
     pub ids: usize,
 }
 
-// The first edition's layout.
-pub const HEADER_WORDS: usize = 8;
-
-// entries, first block + 1, last block + 1, the most entries since the opening
+// A tile has its entries, its first block + 1, its last block + 1 and the most entries since the opening.
 pub const TILE_WORDS: usize = 4;
-
-pub const BLOCK_IDS: usize = 31;
-
-// the ids, then the link
-pub const BLOCK_WORDS: usize = 32;
 
 // Ids are below this.
 pub const ID_LIMIT: u32 = 16777216;
@@ -214,15 +206,7 @@ fn open_as(pool: &mut [u32], layout: Edition, screen: Screen, blocks: u32) -> u3
 pub fn open(pool: &mut [u32], screen: Screen, blocks: u32) -> u32
     ensures { λ r. ⌜ OpenSays edition (now (pool .entry)) screen blocks r (now (pool .exit)) ⌝ }
 {
-    open_as(
-        pool,
-        Edition {
-            header: HEADER_WORDS,
-            ids: BLOCK_IDS,
-        },
-        screen,
-        blocks,
-    )
+    open_as(pool, Edition { header: 8, ids: 31 }, screen, blocks)
 }
 
 // The same of the second edition, with blocks of `size` words; 2 also where that is neither 32 nor 64.

@@ -20,7 +20,7 @@
  *
  * STACK, in bytes, as measured, on x86-64 in an emulator; of bin's, 16,384 list the touched tiles
  *               bin      audit   read    high_water   release   corner   box   open, open_two   unit
- *     x86-64    17,296   2,256   2,288   2,288        2,288     352      192   64               16
+ *     x86-64    17,328   2,320   2,352   2,352        2,400     352      192   144              16
  *     Arm       17,232   2,992   3,024   3,008        3,008     240      160   128              32
  *
  * SCREEN AND UNITS

@@ -20,13 +20,9 @@ abbrev pub Filled : (holds : ℕ → ℕ → Type 0) (ids q : ℕ) (bs : List �
 Filled holds ids q [] = Unit {0}
 Filled holds ids q (b ∷ bs) = holds b (min ids q) × Filled holds ids (q - ids) bs
 
--- word j of a block: where it is an id place it holds an id if it is one of the first k, and else poison
-abbrev pub Place : (ids limit poison k j word : ℕ) → Type 0
-Place ids limit poison k j word = j < ids → (j < k → word < limit) × (k ≤ j → word ≡ poison)
-
 -- of the id places of a block, the first k hold ids, and the others poison
 unfoldable pub Places : Layout → (word : ℕ → ℕ) (k : ℕ) → Type 0
-Places L word k = (j : ℕ) → Place (L .ids) (L .limit) (L .poison) k j (word j)
+Places L word k = (j : ℕ) → j < L .ids → (j < k → word j < L .limit) × (k ≤ j → word j ≡ L .poison)
 
 -- how often b stands in the first t of a row of lists
 abbrev pub timesInFirst : (b : ℕ) (chain : ℕ → List ℕ) (t : ℕ) → ℕ

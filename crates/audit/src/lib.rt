@@ -25,7 +25,7 @@ ghost use Rattle.pool.specs.Words.{edition, layoutOf};
 ghost use Rattle.pool.specs.Editions.{layoutFor, Sized};
 ghost use Rattle.pool.specs.State.{times};
 ghost use Rattle.pool.specs.Sound.{screenOf, Opened};
-ghost use Rattle.audit.specs.Chain.{Place, Places, timesInFirst};
+ghost use Rattle.audit.specs.Chain.{Places, timesInFirst};
 ghost use Rattle.audit.specs.Walk.{blockStart, tileStart, blockWordFrom, WalkSays, Passes, chainOf, MarkRight, TileRight, TilesRight, ChainsRight};
 ghost use Rattle.audit.specs.Answer.{HeaderOf, RestRight, Finds, AuditFinds};
 
@@ -50,32 +50,46 @@ enum Walked {
     Ends(u32),
 }
 
-// Whether a word may stand at place j of a block with k ids. The link, after the id places, may be any word.
-fn place_right(ids: usize, k: usize, j: usize, word: u32) -> bool
-    ensures { λ r. ⌜ Says r (Place ids (edition .limit) (edition .poison) k j word) ⌝ }
+// Whether so many words from a place on are ids. All of them are looked at: without an early end the loop is compiled to vectors.
+fn all_ids(pool: &[u32], at: usize, count: usize) -> bool
+    requires { ⌜ at + count ≤ length (now pool) ⌝ }
+    ensures { λ r. ⌜ Says r ((j : ℕ) → j < count → getD (now (pool .entry)) (at + j) 0 < edition .limit) ⌝ }
 {
-    let id = (k <= j) | (word < ID_LIMIT);
-    let none = (j < k) | (word == POISON);
-    (ids <= j) | (id & none)
+    let mut all = true;
+    let mut j = 0;
+    while j < count {
+        all = all & (pool[at + j] < ID_LIMIT);
+        j += 1;
+    }
+    all
 }
 
-// Whether the id places of a block hold k ids, and then poison. All words of the block are passed and no test ends that early, so that it is compiled to
-// vectors, whatever the size of a block.
+// Whether so many words from a place on are poison, likewise.
+fn all_poison(pool: &[u32], at: usize, count: usize) -> bool
+    requires { ⌜ at + count ≤ length (now pool) ⌝ }
+    ensures { λ r. ⌜ Says r ((j : ℕ) → j < count → getD (now (pool .entry)) (at + j) 0 ≡ edition .poison) ⌝ }
+{
+    let mut all = true;
+    let mut j = 0;
+    while j < count {
+        all = all & (pool[at + j] == POISON);
+        j += 1;
+    }
+    all
+}
+
+// Whether the id places of a block hold k ids, and then poison.
 fn block_right(pool: &[u32], layout: Edition, from: usize, block: Block, k: usize) -> bool
-    requires { ⌜ blockStart (layoutFor layout) from (block .0 + 1) ≤ length (now pool) ⌝ }
+    requires { ⌜ (blockStart (layoutFor layout) from (block .0 + 1) ≤ length (now pool)) × (k ≤ layout .ids) ⌝ }
     ensures { λ r. ⌜ Says r (Places (layoutFor layout) (blockWordFrom (layoutFor layout) (now (pool .entry)) from (block .0)) k) ⌝ }
 {
     let b = wide(block.0);
     let ids = layout.ids;
     let at = from + ids * b + b;
-    let words = ids + 1;
-    let mut right = true;
-    let mut j = 0;
-    while j < words {
-        right = right & place_right(ids, k, j, pool[at + j]);
-        j += 1;
+    if !all_ids(pool, at, k) {
+        return false;
     }
-    right
+    all_poison(pool, at + k, ids - k)
 }
 
 // The link of a block.

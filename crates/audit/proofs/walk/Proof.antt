@@ -64,7 +64,7 @@ block-right-requires c κs =
     let e : link - 1 + 1 ≡ link = omega arith in
     let h : link ≤ s .args .blocks = omega arith in
     let w : suc (s .args .layout .ids) * link ≤ suc (s .args .layout .ids) * s .args .blocks = mul-le-mul-left (suc (s .args .layout .ids)) h in
-    rw e (omega (arith, w, s .pre .0))
+    (rw e (omega (arith, w, s .pre .0)), omega (arith, c .share .ensures))
 
 same-length-4 : tie.Need-same-length-4 Inv-loop μ-loop
 same-length-4 c = search needs

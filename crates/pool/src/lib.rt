@@ -181,7 +181,7 @@ fn write_opening(pool: &mut [u32], layout: Edition, screen: Screen, blocks: u32)
     write_blocks(pool, layout, from, blocks);
 }
 
-// Opens a pool of a layout that there is.
+// Opens a pool of a layout that there is, and answers as `open` does.
 fn open_as(pool: &mut [u32], layout: Edition, screen: Screen, blocks: u32) -> u32
     requires { ⌜ Known (layoutFor layout) ⌝ }
     ensures { λ r. ⌜ OpenSays (layoutFor layout) (now (pool .entry)) screen blocks r (now (pool .exit)) ⌝ }

@@ -6,7 +6,7 @@ use native.Mathlib.Omega.{arith}
 use Rattle.pool.specs.Words.{Layout, second, Known, two-32, two-64, layoutOf}
 use Rattle.pool.specs.Sound.{Sound}
 use Rattle.pool.proofs.Editions.{layout-known, known-second, opened-layout}
-use Rattle.demands.specs.Editions.{SizesOfTheSecond, SoundAsTheySay, OpenedAsAsked, OldReaderAnswers4}
+use Rattle.demands.specs.Editions.{SizesOfTheSecond, SoundAsTheySay, OpenedAsAsked, NoPoolOfTheFirst}
 use Rattle.demands.proofs.Demand3.{accepted-opening, fresh}
 
 pub sizes-of-the-second : SizesOfTheSecond
@@ -24,5 +24,5 @@ sound-as-they-say p = (
 pub opened-as-asked : OpenedAsAsked
 opened-as-asked L d N old p O = let P = fresh (accepted-opening O) in (P .layout, P .sound)
 
-pub old-reader-answers-4 : OldReaderAnswers4
-old-reader-answers-4 p words O S = omega (arith, O .table-at, S .opened .table-at)
+pub no-pool-of-the-first : NoPoolOfTheFirst
+no-pool-of-the-first p words O S = omega (arith, O .table-at, S .opened .table-at)

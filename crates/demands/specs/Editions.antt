@@ -1,4 +1,4 @@
--- The two editions: which layouts there are, whose words are read in which, and what a reader of before says to the second.
+-- The two editions: which layouts there are, which words are read in which, and that no words of the second are taken for a pool of the first.
 use mathlib.Core.Path.{_≡_}
 use mathlib.Core.Logic.{_⊎_, _↔_}
 use mathlib.Core.List.{List}
@@ -20,6 +20,6 @@ SoundAsTheySay = (p : List ℕ) → Sound (layoutOf p) p ↔ ((L : Layout) × Kn
 abbrev pub OpenedAsAsked : Type 0
 OpenedAsAsked = (L : Layout) (d : Screen) (N : ℕ) (old p : List ℕ) → OpenSays L old d N 0 p → (layoutOf p ≡ L) × Sound (layoutOf p) p
 
--- a reader of before takes no words for a pool but those of the first edition, and so answers 4 to words with the header of the second
-abbrev pub OldReaderAnswers4 : Type 0
-OldReaderAnswers4 = (p : List ℕ) (words : ℕ) → Opened (second words) p → Sound edition p → ⊥
+-- words with the header of the second edition are no pool of the first, which is the only one that a reader of before knows: it answers 4
+abbrev pub NoPoolOfTheFirst : Type 0
+NoPoolOfTheFirst = (p : List ℕ) (words : ℕ) → Opened (second words) p → Sound edition p → ⊥

@@ -3,7 +3,7 @@ use mathlib.Core.Path.{_≡_, refl, sym, ap, ap₂, _∙_}
 use mathlib.Core.Bool.{Bool, true, false, cond}
 use mathlib.Core.Logic.{_≢_, _⊎_, inl, inr, ⊎-elim}
 use mathlib.Core.List.{List}
-use Prim.Native.Nat.{ℕ, suc, _-_, _<_}
+use Prim.Native.Nat.{ℕ, _-_, _<_}
 use native.Mathlib.Omega.{arith}
 use borrow.Author.Tests.{eq-eqb, ne-eqb}
 use lib.Dec.{eqb}
@@ -30,11 +30,6 @@ known-poison one = refl
 known-poison two-32 = refl
 known-poison two-64 = refl
 
--- words 6 and 8 of words of a layout that there is
-record Tells (L : Layout) (a b : ℕ) : Type 0 where
-  header : a ≡ L .header
-  size : a ≡ 10 → b ≡ suc (L .ids)
-
 -- the layout by words 6 and 8
 abbrev chosen : (a b : ℕ) → Layout
 chosen a b = cond (eqb a 10) (cond (eqb b 64) (second 64) (second 32)) edition
@@ -53,20 +48,6 @@ layout-known p = chosen-known (headerWord p 6) (headerWord p 8)
 
 pub layout-fair : (p : List ℕ) → Fair (layoutOf p)
 layout-fair p = known-fair (layout-known p)
-
-chosen-is : {L : Layout} (a b : ℕ) → Known L → Tells L a b → chosen a b ≡ L
-chosen-is a b one T = ap (λ (x : Bool). cond x (cond (eqb b 64) (second 64) (second 32)) edition) (ne-eqb a 10 (omega (arith, T .header)))
-chosen-is a b two-32 T =
-    ap₂ (λ (x y : Bool). cond x (cond y (second 64) (second 32)) edition) (eq-eqb a 10 (T .header)) (ne-eqb b 64 (omega (arith, T .size (T .header))))
-chosen-is a b two-64 T =
-    ap₂ (λ (x y : Bool). cond x (cond y (second 64) (second 32)) edition) (eq-eqb a 10 (T .header)) (eq-eqb b 64 (T .size (T .header)))
-
--- a pool that was opened in a layout that there is has that layout
-pub opened-layout : {L : Layout} {p : List ℕ} → Known L → Opened L p → layoutOf p ≡ L
-unfolding layoutOf
-opened-layout {L} {p} k O =
-    chosen-is (headerWord p 6) (headerWord p 8) k
-    (record { header = O .table-at; size = λ z. O .size-at (omega (arith, O .table-at)) })
 
 -- the code's divisions, sums and products serve the layouts that there are
 pub known-sized : {L : Layout} → Known L → Sized L
@@ -98,6 +79,12 @@ module _ (p : List ℕ) where
   pub layout-two-32 : headerWord p 6 ≡ 10 → headerWord p 8 ≢ 64 → layoutOf p ≡ second 32
   unfolding layoutOf
   layout-two-32 e f = ap₂ (λ (x y : Bool). cond x (cond y (second 64) (second 32)) edition) (eq-eqb (headerWord p 6) 10 e) (ne-eqb (headerWord p 8) 64 f)
+
+-- a pool that was opened in a layout that there is has that layout
+pub opened-layout : {L : Layout} {p : List ℕ} → Known L → Opened L p → layoutOf p ≡ L
+opened-layout {p = p} one O = layout-one p (λ e. omega (arith, O .table-at))
+opened-layout {p = p} two-32 O = layout-two-32 p (O .table-at) (λ e. omega (arith, O .size-at (omega arith)))
+opened-layout {p = p} two-64 O = layout-two-64 p (O .table-at) (O .size-at (omega arith))
 
 -- the words of the second edition have its header
 layout-header : (p : List ℕ) → headerWord p 6 ≡ 10 → layoutOf p .header ≡ 10

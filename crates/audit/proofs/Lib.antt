@@ -4,4 +4,3 @@ pub mod Reading
 pub mod Passing
 pub mod Whole
 pub mod Answers
-pub mod Deciding

@@ -7,10 +7,11 @@ use lib.IntN.{ℤ, pos}
 use lib.Ieee.{Float}
 use lib.Ieee.Scale.{finite}
 use Rattle.numbers.specs.Says.{Says}
-use Rattle.shape.specs.Shape.{InUnits}
+use Rattle.shape.specs.Shape.{InUnits, inUnits}
+use Rattle.shape.proofs.Range.{in-units-test}
 use Rattle.snap.specs.declared.Snapped.{Snapped}
-use Rattle.snap.specs.Unit.{HasUnit, Right, inUnits, numberOf, unitOf}
-use Rattle.snap.proofs.Unit.{in-units-test, has-unit, unit-of-is-right}
+use Rattle.snap.specs.Unit.{HasUnit, Right, numberOf, unitOf}
+use Rattle.snap.proofs.Unit.{has-unit, unit-of-is-right}
 use Rattle.calls.specs.declared.Rounded.{Rounded}
 use Rattle.calls.specs.Units.{UnitSays, not-finite, out-of-range, done}
 

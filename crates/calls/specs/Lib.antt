@@ -1,3 +1,4 @@
 pub mod Tables
 pub mod Questions
 pub mod Units
+pub mod Overlaps

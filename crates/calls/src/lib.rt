@@ -4,10 +4,12 @@ use audit::Audited;
 use audit::Header;
 use numbers::narrow;
 use numbers::wide;
+use overlaps::Totals;
 use screen::Rectangle;
 use screen::Screen;
 use screen::Tile;
 use shape::Shape;
+use shapes::Checked;
 use snap::PixelShape;
 use snap::Snapped;
 use snap::SnappedShape;
@@ -21,6 +23,7 @@ ghost use Rattle.calls.specs.Tables.{AuditSays, refusedBin, PlaceSays, B
 ghost use Prim.Native.Nat.{_<_};
 ghost use Rattle.calls.specs.Questions.{QuestionSays, notAsked, BoxSays, CornerSays};
 ghost use Rattle.calls.specs.Units.{UnitSays};
+ghost use Rattle.calls.specs.Overlaps.{notCounted, OverlapsSays};
 
 // What a bin answers: its number, the tiles listed and the blocks taken.
 pub struct Binned {
@@ -57,6 +60,12 @@ pub struct Answered {
 pub struct Rounded {
     pub number: u32,
     pub unit: i32,
+}
+
+// What a question for totals over a list of shapes answers: its number, and the totals.
+pub struct Counted {
+    pub number: u32,
+    pub totals: Totals,
 }
 
 // Opens a pool for a screen with so many blocks: 0, or 1 for the screen, 2 for the blocks, 3 for a slice that is too short.
@@ -292,4 +301,27 @@ pub fn unit(v: f32) -> Rounded
         };
     };
     Rounded { number: 0, unit }
+}
+
+// Totals that are not counted.
+fn not_counted(number: u32) -> Counted
+    ensures { λ r. ⌜ r ≡ notCounted number ⌝ }
+{
+    let totals = overlaps::no_totals();
+    Counted { number, totals }
+}
+
+// The totals over a list of shapes, seven words to a shape, of their tiles by box and by touching: 0 and the totals, or 1, 15 in that order.
+pub fn overlaps(list: &[i32], screen: Screen) -> Counted
+    ensures { λ r. ⌜ OverlapsSays (now (list .entry)) screen r ⌝ }
+{
+    if !screen::allowed(screen) {
+        return not_counted(1);
+    }
+    let checked = shapes::check(list, overlaps::WORDS);
+    let Checked::Right(count) = checked else {
+        return not_counted(15);
+    };
+    let totals = overlaps::totals_of(screen, list, count);
+    Counted { number: 0, totals }
 }

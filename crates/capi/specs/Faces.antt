@@ -14,6 +14,8 @@ use Rattle.calls.specs.declared.Released.{Released}
 use Rattle.calls.specs.declared.Found.{Found}
 use Rattle.calls.specs.declared.HighWater.{HighWater}
 use Rattle.calls.specs.declared.Answered.{Answered}
+use Rattle.calls.specs.declared.Counted.{Counted}
+use Rattle.overlaps.specs.declared.Totals.{Totals}
 
 abbrev pub screen : (width height s : ℕ) → Screen
 screen width height s = record { width = width; height = height; s = s }
@@ -38,6 +40,21 @@ found number id = record { number = number; id = id }
 
 abbrev pub highWater : (number entries : ℕ) → HighWater
 highWater number entries = record { number = number; entries = entries }
+
+abbrev pub totals : (shapes outOfRange boxTiles touchedTiles difference largest place : ℕ) → Totals
+totals shapes outOfRange boxTiles touchedTiles difference largest place =
+    record {
+      shapes = shapes;
+      «out_of_range» = outOfRange;
+      «box_tiles» = boxTiles;
+      «touched_tiles» = touchedTiles;
+      difference = difference;
+      largest = largest;
+      place = place;
+    }
+
+abbrev pub counted : (number : ℕ) (totals : Totals) → Counted
+counted number totals = record { number = number; totals = totals }
 
 -- an answer with this number, whose yes is written as 1 and whose no as 0, is one that Says allows
 pub record Told (Says : Answered → Type 0) (number touches : ℕ) : Type 0 where

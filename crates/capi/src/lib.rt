@@ -12,7 +12,8 @@ ghost use Rattle.shape.specs.declared.Shape.the-variants.{Point, Line, Triangle
 ghost use Rattle.calls.specs.Tables.{AuditSays, BinSays, BinPixelsSays, ReadSays, HighWaterSays, ReleaseSays};
 ghost use Rattle.calls.specs.Questions.{BoxSays, CornerSays};
 ghost use Rattle.calls.specs.Units.{UnitSays};
-ghost use Rattle.capi.specs.Faces.{screen, vertex, pixel, binned, released, found, highWater, rounded, Told};
+ghost use Rattle.calls.specs.Overlaps.{OverlapsSays};
+ghost use Rattle.capi.specs.Faces.{screen, vertex, pixel, binned, released, found, highWater, rounded, totals, counted, Told};
 
 // Opens a pool of the first edition: 0, or 1, 2, 3 in that order.
 #[no_mangle]
@@ -425,5 +426,34 @@ pub extern "C" fn flourscoop_unit(v: f32, unit: &mut i32) -> u32
     let answer = calls::unit(v);
     let value = answer.unit;
     *unit = value;
+    answer.number
+}
+
+// Totals over a list of shapes, seven words to a shape: 0, or 1, 15 in that order.
+#[no_mangle]
+pub extern "C" fn flourscoop_overlaps(
+    list: &[i32],
+    width: u32,
+    height: u32,
+    s: u32,
+    shapes: &mut u32,
+    out_of_range: &mut u32,
+    box_tiles: &mut u64,
+    touched_tiles: &mut u64,
+    difference: &mut u64,
+    largest: &mut u32,
+    place: &mut u32,
+) -> u32
+    ensures { λ r. ⌜ OverlapsSays (now (list .entry)) (screen width height s) (counted r (totals (now (shapes .exit)) (now («out_of_range» .exit)) (now («box_tiles» .exit)) (now («touched_tiles» .exit)) (now (difference .exit)) (now (largest .exit)) (now (place .exit)))) ⌝ }
+{
+    let answer = calls::overlaps(list, Screen { width, height, s });
+    let told = answer.totals;
+    *shapes = told.shapes;
+    *out_of_range = told.out_of_range;
+    *box_tiles = told.box_tiles;
+    *touched_tiles = told.touched_tiles;
+    *difference = told.difference;
+    *largest = told.largest;
+    *place = told.place;
     answer.number
 }

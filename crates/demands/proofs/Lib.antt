@@ -1,6 +1,7 @@
 pub mod Touched
 pub mod OneOutcome
 pub mod Unit
+pub mod Overlaps
 pub mod Accepted
 pub mod Demand1
 pub mod Demand2

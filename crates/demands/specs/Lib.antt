@@ -2,6 +2,7 @@ pub mod History
 pub mod Room
 pub mod Demand1
 pub mod Unit
+pub mod Overlaps
 pub mod Demand2
 pub mod Demand3
 pub mod HighWater

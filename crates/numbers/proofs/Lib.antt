@@ -1,4 +1,5 @@
 pub mod Says
+pub mod Deciding
 pub mod Product
 pub mod Diff
 pub mod Is

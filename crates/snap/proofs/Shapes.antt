@@ -7,16 +7,16 @@ use lib.IntN.{ℤ}
 use lib.Ieee.{Float, nan, inf, fin, up, down}
 use lib.Ieee.Nearest.{closest}
 use Rattle.numbers.specs.Says.{Says}
-use Rattle.shape.specs.Shape.{InUnits, Placed, InRange}
+use Rattle.shape.specs.Shape.{InUnits, Placed, InRange, inUnits}
+use Rattle.shape.proofs.Range.{in-units-test}
 use Rattle.shape.specs.declared.Shape.{Shape}
-use Rattle.snap.specs.Unit.{signed, inUnits, accept, unitOf}
+use Rattle.snap.specs.Unit.{signed, accept, unitOf}
 use Rattle.snap.specs.Shapes.{vertexBy, vertexOf, pointBy, lineBy, triangleBy, shapeOf, shapeNumberOf, coordinates, refusedOr, firstRefusal}
 use Rattle.snap.specs.declared.Snapped.{Snapped}
 use Rattle.snap.specs.declared.PixelVertex.{PixelVertex}
 use Rattle.snap.specs.declared.PixelShape.{PixelShape}
 use Rattle.snap.specs.declared.SnappedVertex.{SnappedVertex}
 use Rattle.snap.specs.declared.SnappedShape.{SnappedShape}
-use Rattle.snap.proofs.Unit.{in-units-test}
 
 -- ---- a value in range, or one of the two numbers
 

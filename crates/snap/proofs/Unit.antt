@@ -2,40 +2,25 @@
 use mathlib.Core.Path.{_≡_, refl, sym, ap, _∙_, subst}
 use Prim.Native.Nat.{ℕ, zero, suc, _*_, _≤_, _<_}
 use native.Mathlib.Omega.{arith}
-use mathlib.Core.Bool.{Bool, true, false, not, cond, _&&_}
+use mathlib.Core.Bool.{Bool, true, false, not, cond}
 use lib.Dec.{T, leb→le}
 use lib.IntN.{ℤ, pos, negsuc}
 use lib.Signed.{leZ}
 use lib.Ieee.{Float, nan, inf, fin, up, down}
-use lib.Ieee.Fits.{down-pos, and-i, and-l, and-r}
+use lib.Ieee.Fits.{down-pos, and-i}
 use lib.Ieee.Bits.{is-true}
 use lib.Ieee.Nearest.{closest}
 use lib.Ieee.Scale.{finite}
 use Rattle.numbers.specs.Says.{Says}
-use Rattle.numbers.proofs.Says.{says-yes, says-no}
-use Rattle.shape.specs.Shape.{InUnits}
+use Rattle.shape.specs.Shape.{InUnits, inUnits}
+use Rattle.shape.proofs.Range.{in-units-test}
 use Rattle.snap.specs.Nearest.{away}
-use Rattle.snap.specs.Unit.{signed, HasUnit, Right, inUnits, accept, unitOf}
+use Rattle.snap.specs.Unit.{signed, HasUnit, Right, accept, unitOf}
 use Rattle.snap.specs.declared.Snapped.{Snapped}
 use Rattle.snap.specs.declared.Snapped.the-variants.{Refused}
 use Rattle.snap.proofs.OneNearest.{closest-nearest, nearest-closest}
 
 -- ---- the range
-
-pub in-units-test : (z : ℤ) → Says (inUnits z) (InUnits z)
-in-units-test z = go (inUnits z) refl
-  where
-    low : Bool
-    low = leZ (negsuc 262143) z
-
-    high : Bool
-    high = leZ z (pos 262143)
-
-    go : (b : Bool) → low && high ≡ b → Says b (InUnits z)
-    go true e =
-        let t : T (low && high) = subst T (sym e) tt in
-        says-yes (record { low = record { le = and-l low high t }; high = record { le = and-r low high t } })
-    go false e = says-no (λ h. subst T e (and-i low high (h .low .le) (h .high .le)))
 
 pub accept-in-range : (z : ℤ) → InUnits z → accept z ≡ Snapped.Unit z
 accept-in-range z h =

@@ -1,14 +1,13 @@
 -- The unit of a coordinate: the whole number nearest to sixteen times it, a half going to the even one.
 use Prim.Native.Nat.{ℕ, _*_}
 use mathlib.Core.Path.{_≡_}
-use mathlib.Core.Bool.{Bool, true, false, not, cond, _&&_}
+use mathlib.Core.Bool.{Bool, true, false, not, cond}
 use lib.Dec.{T}
-use lib.IntN.{ℤ, pos, negsuc, negℤ}
-use lib.Signed.{leZ}
+use lib.IntN.{ℤ, pos, negℤ}
 use lib.Ieee.{Float, nan, inf, fin, up, down}
 use lib.Ieee.Nearest.{closest}
 use lib.Ieee.Scale.{finite}
-use Rattle.shape.specs.Shape.{InUnits}
+use Rattle.shape.specs.Shape.{InUnits, inUnits}
 use Rattle.snap.specs.Nearest.{Nearest}
 use Rattle.snap.specs.declared.Snapped.{Snapped}
 use Rattle.snap.specs.declared.Snapped.the-variants.{Refused}
@@ -36,9 +35,6 @@ numberOf (Snapped.Unit z) = 0
 numberOf (Refused n) = n
 
 -- ---- the same, computed
-
-abbrev pub inUnits : ℤ → Bool
-inUnits z = leZ (negsuc 262143) z && leZ z (pos 262143)
 
 abbrev pub accept : ℤ → Snapped
 accept z = cond (inUnits z) (Snapped.Unit z) (Refused 7)

@@ -3,12 +3,12 @@ use Prim.Native.Nat.{ℕ}
 use mathlib.Core.Path.{_≡_, refl, sym, subst, _∙_}
 use mathlib.Core.Bool.{Bool, true, false, not, _&&_, _||_}
 use mathlib.Core.Logic.{_⊎_, inl, inr, ⊎-elim}
-use lib.Dec.{T}
 use lib.IntN.{ℤ, pos}
 use lib.Signed.{_≤ℤ_, _<ℤ_, leZ, ltZ}
 use Rattle.numbers.specs.Is.{Is}
 use Rattle.numbers.specs.Says.{Says}
-use Rattle.numbers.proofs.Says.{says-yes, says-no, says-iff, says-and}
+use Rattle.numbers.proofs.Says.{says-yes, says-no, says-iff, says-and, says-not}
+use Rattle.numbers.proofs.Deciding.{says-leℤ, says-ltℤ}
 use Rattle.screen.specs.declared.Rectangle.{Rectangle}
 use Rattle.screen.specs.Rectangle.{Proper}
 use Rattle.shape.specs.declared.Vertex.{Vertex}
@@ -32,16 +32,6 @@ says-or {r = true} {s} h k = says-yes (inl (h .yes refl))
 says-or {r = false} {s = true} h k = says-yes (inr (k .yes refl))
 says-or {r = false} {s = false} h k = says-no (⊎-elim (h .no refl) (k .no refl))
 
-says-not : {P : Type 0} {r : Bool} → Says r P → Says (not r) (P → ⊥)
-says-not {r = true} h = says-no (λ n. n (h .yes refl))
-says-not {r = false} h = says-yes (h .no refl)
-
-says-le : (x y : ℤ) → Says (leZ x y) (x ≤ℤ y)
-says-le x y = record { yes = λ e. record { le = subst T (sym e) tt }; no = λ e h. subst T e (h .le) }
-
-says-lt : (x y : ℤ) → Says (ltZ x y) (x <ℤ y)
-says-lt x y = record { yes = λ e. record { lt = subst T (sym e) tt }; no = λ e h. subst T e (h .lt) }
-
 -- ---- the box
 
 abbrev pub overlap : Bounds → Rectangle → Bool
@@ -53,8 +43,8 @@ overlap-says p q =
     (λ h. record { left = h .0 .0; right = h .0 .1; top = h .1 .0; bottom = h .1 .1 })
     (λ h. ((h .left, h .right), (h .top, h .bottom)))
     (says-and
-    (says-and (says-le (q .left) (p .right)) (says-le (p .left) (q .right)))
-    (says-and (says-le (q .top) (p .bottom)) (says-le (p .top) (q .bottom))))
+    (says-and (says-leℤ (q .left) (p .right)) (says-leℤ (p .left) (q .right)))
+    (says-and (says-leℤ (q .top) (p .bottom)) (says-leℤ (p .top) (q .bottom))))
 
 -- ---- one edge
 
@@ -84,10 +74,10 @@ module _ (third p q r s : ℤ) where
   apart-says =
       says-iff made parted
       (says-or
-      (says-and (says-le third (pos 0))
-      (says-and (says-and (says-lt (pos 0) p) (says-lt (pos 0) q)) (says-and (says-lt (pos 0) r) (says-lt (pos 0) s))))
-      (says-and (says-le (pos 0) third)
-      (says-and (says-and (says-lt p (pos 0)) (says-lt q (pos 0))) (says-and (says-lt r (pos 0)) (says-lt s (pos 0))))))
+      (says-and (says-leℤ third (pos 0))
+      (says-and (says-and (says-ltℤ (pos 0) p) (says-ltℤ (pos 0) q)) (says-and (says-ltℤ (pos 0) r) (says-ltℤ (pos 0) s))))
+      (says-and (says-leℤ (pos 0) third)
+      (says-and (says-and (says-ltℤ p (pos 0)) (says-ltℤ q (pos 0))) (says-and (says-ltℤ r (pos 0)) (says-ltℤ s (pos 0))))))
 
 -- ---- the corner test
 

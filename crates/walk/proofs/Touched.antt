@@ -19,7 +19,7 @@ use Rattle.walk.proofs.Lists.{lists-few, lists-as-long, lists-same}
 
 -- ---- a list as the front of itself
 
-rising : (ts : List ℕ) → ((i : ℕ) → suc i < length ts → getD ts i 0 < getD ts (suc i) 0) → (i j : ℕ) → i < j → j < length ts → getD ts i 0 < getD ts j 0
+pub rising : (ts : List ℕ) → ((i : ℕ) → suc i < length ts → getD ts i 0 < getD ts (suc i) 0) → (i j : ℕ) → i < j → j < length ts → getD ts i 0 < getD ts j 0
 rising ts r i zero h k = absurd (omega arith)
 rising ts r i (suc j) h k = last-or-before (λ l. rising ts r i j l (omega arith)) (lt-or-ge i j)
   where

@@ -5,7 +5,7 @@ use lib.ListN.{getD}
 use Rattle.numbers.specs.Says.{Says}
 use Rattle.numbers.proofs.Says.{says-iff}
 use Rattle.pool.specs.Words.{edition}
-use Rattle.audit.proofs.Deciding.{says-none, says-more, says-lt}
+use Rattle.numbers.proofs.Deciding.{says-none, says-more, says-lt}
 use Rattle.audit.proofs.all_ids.Statement.{statement}
 use Rattle.audit.proofs.all_ids.Tie as tie
 

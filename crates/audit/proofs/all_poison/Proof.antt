@@ -6,7 +6,7 @@ use lib.ListN.{getD}
 use Rattle.numbers.specs.Says.{Says}
 use Rattle.numbers.proofs.Says.{says-iff}
 use Rattle.pool.specs.Words.{edition}
-use Rattle.audit.proofs.Deciding.{says-none, says-more, says-eq}
+use Rattle.numbers.proofs.Deciding.{says-none, says-more, says-eq}
 use Rattle.audit.proofs.all_poison.Statement.{statement}
 use Rattle.audit.proofs.all_poison.Tie as tie
 

@@ -1,0 +1,69 @@
+-- The tiles of a shape by box and by touching, computed; and that the walk's list is as long.
+use mathlib.Core.Path.{refl, sym}
+use mathlib.Core.Bool.{Bool}
+use mathlib.Core.List.{List}
+use Prim.Native.Nat.{ℕ, _≤_, _<_}
+use native.Mathlib.Omega.{arith}
+use lib.ListN.{length, getD}
+use Rattle.numbers.specs.Says.{Says}
+use Rattle.numbers.specs.Sum.{sumTo}
+use Rattle.numbers.proofs.Says.{says-true}
+use Rattle.screen.specs.declared.Screen.{Screen}
+use Rattle.screen.specs.Screen.{Allowed, tiles, columnOf, rowOf}
+use Rattle.screen.specs.Rectangle.{rectangle}
+use Rattle.screen.proofs.Laws.{column<, row<, rectangle-proper}
+use Rattle.shape.specs.declared.Shape.{Shape}
+use Rattle.touch.specs.Touches.{Touches}
+use Rattle.touch.specs.Corner.{three, bounds, Box}
+use Rattle.touch.proofs.Answers.{overlap, overlap-says, corner, corner-says-touching}
+use Rattle.touch.proofs.Theorem.{touching-meets-box}
+use Rattle.walk.specs.Touched.{TouchedTiles}
+use Rattle.walk.proofs.Touched.{rising}
+use Rattle.overlaps.specs.HowMany.{TilesByBox, TilesByTouching}
+use Rattle.overlaps.proofs.Counting.{one, rising-sum, counts-rise}
+
+module _ (d : Screen) (shape : Shape) where
+  unfoldable inBox : ℕ → Bool
+  inBox t = overlap (bounds (three shape)) (rectangle d t)
+
+  unfoldable touched : ℕ → Bool
+  touched t = corner shape (rectangle d t)
+
+  abbrev pub boxTiles : ℕ
+  boxTiles = sumTo (tiles d) (λ t. one (inBox t))
+
+  abbrev pub touchedTiles : ℕ
+  touchedTiles = sumTo (tiles d) (λ t. one (touched t))
+
+  unfolding inBox in-box-says : (t : ℕ) → Says (inBox t) (Box shape (rectangle d t))
+  in-box-says t = overlap-says (bounds (three shape)) (rectangle d t)
+
+  unfolding touched touched-says : Allowed d → (t : ℕ) → t < tiles d → Says (touched t) (Touches shape (rectangle d t))
+  touched-says a t l = corner-says-touching shape (rectangle d t) (rectangle-proper d a (column< d a t) (row< d a t l))
+
+  pub box-counts : TilesByBox d shape boxTiles
+  box-counts = record { test = inBox; says = λ t l. in-box-says t; sum = refl }
+
+  pub touched-counts : Allowed d → TilesByTouching d shape touchedTiles
+  touched-counts a = record { test = touched; says = touched-says a; sum = refl }
+
+  -- a list of the touched tiles has as many
+  pub list-counts : Allowed d → (ts : List ℕ) → TouchedTiles d shape ts → TilesByTouching d shape (length ts)
+  list-counts a ts h =
+      record {
+        test = touched;
+        says = touched-says a;
+        sum =
+            sym
+            (rising-sum (λ i. getD ts i 0) (length ts) (tiles d) touched
+            (record {
+              rising = rising ts (h .rising);
+              below = λ i l. h .touched i l .0;
+              passes = λ i l. says-true (touched-says a (getD ts i 0) (h .touched i l .0)) (h .touched i l .1);
+              all = λ t l e. h .all t l (touched-says a t l .yes e);
+            }));
+      }
+
+-- no more tiles are touched than the box meets
+pub touched≤box : {d : Screen} {shape : Shape} {b t : ℕ} → TilesByBox d shape b → TilesByTouching d shape t → t ≤ b
+touched≤box h k = counts-rise (λ t p. touching-meets-box p) h k

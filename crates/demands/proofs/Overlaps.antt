@@ -14,7 +14,7 @@ use Rattle.overlaps.specs.declared.Totals.{Totals}
 use Rattle.overlaps.specs.HowMany.{TilesByTouching}
 use Rattle.overlaps.proofs.Counting.{counts-once, counts-both}
 use Rattle.overlaps.proofs.Tiles.{list-counts}
-use Rattle.overlaps.proofs.Totals.{totals-once}
+use Rattle.overlaps.proofs.Sums.{totals-once}
 use Rattle.pool.specs.Sound.{screenOf}
 use Rattle.calls.specs.declared.Binned.{Binned}
 use Rattle.calls.specs.declared.Counted.{Counted}

@@ -39,10 +39,10 @@ one-both false = refl
 
 -- each number satisfies the condition or does not
 pub counts-both : {n c e : ℕ} {P : ℕ → Type 0} → HowMany n P c → HowMany n (λ i. P i → ⊥) e → c + e ≡ n
-counts-both {n} h k =
+counts-both {n} {c} {e} h k =
     let f : ℕ → ℕ = λ i. one (h .test i) in
     let g : ℕ → ℕ = λ i. one (not (h .test i)) in
-    omega (arith, h .sum, counts-once k (record { test = λ i. not (h .test i); says = λ i l. says-not (h .says i l); sum = refl {x = sumTo n g} }),
+    omega (arith, h .sum, counts-once {c = e} {e = sumTo n g} k (record { test = λ i. not (h .test i); says = λ i l. says-not (h .says i l); sum = refl }),
     sumTo-add n f g, sumTo-all n 1 (λ i. f i + g i) (λ i l. one-both (h .test i)))
 
 -- ---- a rising list of all that pass a test

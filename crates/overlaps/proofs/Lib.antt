@@ -1,4 +1,4 @@
 pub mod Counting
 pub mod Spans
 pub mod Tiles
-pub mod Totals
+pub mod Sums

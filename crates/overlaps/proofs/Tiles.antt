@@ -23,10 +23,10 @@ use Rattle.overlaps.specs.HowMany.{TilesByBox, TilesByTouching}
 use Rattle.overlaps.proofs.Counting.{one, rising-sum, counts-rise}
 
 module _ (d : Screen) (shape : Shape) where
-  unfoldable inBox : ℕ → Bool
+  unfoldable pub inBox : ℕ → Bool
   inBox t = overlap (bounds (three shape)) (rectangle d t)
 
-  unfoldable touched : ℕ → Bool
+  unfoldable pub touched : ℕ → Bool
   touched t = corner shape (rectangle d t)
 
   abbrev pub boxTiles : ℕ
@@ -35,10 +35,12 @@ module _ (d : Screen) (shape : Shape) where
   abbrev pub touchedTiles : ℕ
   touchedTiles = sumTo (tiles d) (λ t. one (touched t))
 
-  unfolding inBox in-box-says : (t : ℕ) → Says (inBox t) (Box shape (rectangle d t))
+  in-box-says : (t : ℕ) → Says (inBox t) (Box shape (rectangle d t))
+  unfolding inBox
   in-box-says t = overlap-says (bounds (three shape)) (rectangle d t)
 
-  unfolding touched touched-says : Allowed d → (t : ℕ) → t < tiles d → Says (touched t) (Touches shape (rectangle d t))
+  touched-says : Allowed d → (t : ℕ) → t < tiles d → Says (touched t) (Touches shape (rectangle d t))
+  unfolding touched
   touched-says a t l = corner-says-touching shape (rectangle d t) (rectangle-proper d a (column< d a t) (row< d a t l))
 
   pub box-counts : TilesByBox d shape boxTiles
@@ -65,5 +67,5 @@ module _ (d : Screen) (shape : Shape) where
       }
 
 -- no more tiles are touched than the box meets
-pub touched≤box : {d : Screen} {shape : Shape} {b t : ℕ} → TilesByBox d shape b → TilesByTouching d shape t → t ≤ b
-touched≤box h k = counts-rise (λ t p. touching-meets-box p) h k
+pub touched≤box : (d : Screen) (shape : Shape) {b t : ℕ} → TilesByBox d shape b → TilesByTouching d shape t → t ≤ b
+touched≤box d shape h k = counts-rise (λ t p. touching-meets-box p) h k

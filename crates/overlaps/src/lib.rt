@@ -1,6 +1,6 @@
 // Totals over a list of shapes: how many tiles their bounding boxes meet, how many they touch, and what is between.
 ghost use mathlib.Core.Path.{_≡_};
-ghost use mathlib.Core.List.{List};
+ghost use mathlib.Core.Bool.{cond};
 ghost use Prim.Native.Nat.{ℕ, _-_, _≤_, _<_};
 ghost use lib.ListN.{length};
 ghost use Rattle.screen.specs.Screen.{Allowed};
@@ -60,58 +60,61 @@ fn box_tiles(screen: Screen, shape: Shape) -> u32
     requires { ⌜ (Allowed screen) × (InRange shape) ⌝ }
     ensures { λ r. ⌜ TilesByBox screen shape r ⌝ }
 {
-    let around = touch::bounds_of(touch::three_of(shape));
-    let columns = screen::meeting(screen.width, screen.s, around.left, around.right);
-    let rows = screen::meeting(screen.height, screen.s, around.top, around.bottom);
-    extent_of(columns) * extent_of(rows)
+    let spans = walk::box_spans(screen, touch::three_of(shape));
+    extent_of(spans.columns) * extent_of(spans.rows)
+}
+
+// The first number for yes, the second for no.
+fn either(yes: bool, x: u32, y: u32) -> u32
+    ensures { λ r. ⌜ r ≡ cond yes x y ⌝ }
+{
+    if yes { x } else { y }
 }
 
 // The totals with a shape in range more, which is at that place and has so many tiles by box and by touching.
-fn with_shape(before: Totals, place: u32, boxed: u32, touched: u32) -> Totals
-    requires { ⌜ (Bounded place before) × (place < 1048576) × (boxed ≤ 4096) × (touched ≤ boxed) ⌝ }
-    ensures { λ r. ⌜ r ≡ withShape before place boxed touched ⌝ }
+fn with_shape(totals: Totals, place: u32, boxed: u32, touched: u32) -> Totals
+    requires { ⌜ (Bounded place totals) × (place < 1048576) × (boxed ≤ 4096) × (touched ≤ boxed) ⌝ }
+    ensures { λ r. ⌜ r ≡ withShape totals place boxed touched ⌝ }
 {
-    let leads = (before.shapes == 0) | (before.largest < touched);
-    let largest = if leads { touched } else { before.largest };
-    let first = if leads { place } else { before.place };
+    let leads = (totals.shapes == 0) | (totals.largest < touched);
     Totals {
-        shapes: before.shapes + 1,
-        out_of_range: before.out_of_range,
-        box_tiles: before.box_tiles + boxed as u64,
-        touched_tiles: before.touched_tiles + touched as u64,
-        difference: before.difference + (boxed - touched) as u64,
-        largest,
-        place: first,
+        shapes: totals.shapes + 1,
+        out_of_range: totals.out_of_range,
+        box_tiles: totals.box_tiles + boxed as u64,
+        touched_tiles: totals.touched_tiles + touched as u64,
+        difference: totals.difference + (boxed - touched) as u64,
+        largest: either(leads, touched, totals.largest),
+        place: either(leads, place, totals.place),
     }
 }
 
 // The totals with a shape out of range more.
-fn with_other(before: Totals) -> Totals
-    requires { ⌜ before .«out_of_range» < 1048576 ⌝ }
-    ensures { λ r. ⌜ r ≡ withOther before ⌝ }
+fn with_other(totals: Totals) -> Totals
+    requires { ⌜ totals .«out_of_range» < 1048576 ⌝ }
+    ensures { λ r. ⌜ r ≡ withOther totals ⌝ }
 {
     Totals {
-        shapes: before.shapes,
-        out_of_range: before.out_of_range + 1,
-        box_tiles: before.box_tiles,
-        touched_tiles: before.touched_tiles,
-        difference: before.difference,
-        largest: before.largest,
-        place: before.place,
+        shapes: totals.shapes,
+        out_of_range: totals.out_of_range + 1,
+        box_tiles: totals.box_tiles,
+        touched_tiles: totals.touched_tiles,
+        difference: totals.difference,
+        largest: totals.largest,
+        place: totals.place,
     }
 }
 
 // The totals with the shape at a place. The list is lent for the touched tiles.
-fn with(before: Totals, screen: Screen, shape: Shape, place: u32, touched: &mut [u32]) -> Totals
-    requires { ⌜ (Allowed screen) × (Bounded place before) × (place < 1048576) × (4096 ≤ length (now touched)) ⌝ }
-    ensures { λ r. ⌜ With screen shape place before r ⌝ }
+fn with(totals: Totals, screen: Screen, shape: Shape, place: u32, touched: &mut [u32]) -> Totals
+    requires { ⌜ (Allowed screen) × (Bounded place totals) × (place < 1048576) × (4096 ≤ length (now touched)) ⌝ }
+    ensures { λ r. ⌜ With screen shape place totals r ⌝ }
 {
     if !shape::in_range(shape) {
-        return with_other(before);
+        return with_other(totals);
     }
     let boxed = box_tiles(screen, shape);
     let count = walk::touched_tiles(screen, shape, touched);
-    with_shape(before, place, boxed, count)
+    with_shape(totals, place, boxed, count)
 }
 
 // The totals of the shapes of a list, of which there are count.

@@ -7,10 +7,12 @@ use Rattle.screen.specs.declared.Screen.{Screen}
 use Rattle.screen.specs.declared.Span.{Span}
 use Rattle.screen.specs.Rectangle.{near, far, Meets, Meeting}
 use Rattle.shape.specs.declared.Shape.{Shape}
+use Rattle.touch.specs.declared.Three.{Three}
 use Rattle.touch.specs.declared.Edges.{Edges}
 use Rattle.touch.specs.declared.RowEdges.{RowEdges}
 use Rattle.touch.specs.Corner.{bounds, triangle}
 use Rattle.touch.specs.Edges.{starts, Clear}
+use Rattle.walk.specs.declared.Spans.{Spans}
 
 -- no edge separates the tile of that column
 abbrev pub ClearIn : Screen → RowEdges → ℕ → Type 0
@@ -40,6 +42,11 @@ pub record RunIn (P : ℕ → Type 0) (base : ℕ) (span : Span) (count n : ℕ)
   pub ends : stop < span .end → P stop → ⊥
 
 -- ---- the shape that the edges are of, and its bounding box
+
+-- the columns and the rows that the bounding box of the vertices meets
+pub record MeetingBox (d : Screen) (t : Three) (spans : Spans) : Type 0 where
+  pub columns : Meeting (d .width) (d .s) (bounds t .left) (bounds t .right) (spans .columns)
+  pub rows : Meeting (d .height) (d .s) (bounds t .top) (bounds t .bottom) (spans .rows)
 
 abbrev pub outlined : Edges → Shape
 outlined e = triangle (starts e)

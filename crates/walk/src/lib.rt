@@ -7,16 +7,23 @@ ghost use lib.ListN.{length};
 ghost use Rattle.numbers.specs.Says.{Says};
 ghost use Rattle.screen.specs.Screen.{Allowed, columns, rows, tiles};
 ghost use Rattle.shape.specs.Shape.{InRange};
-ghost use Rattle.touch.specs.Edges.{Outline, RowEdgesRange};
+ghost use Rattle.touch.specs.Edges.{AllPlaced, Outline, RowEdgesRange};
 ghost use Rattle.walk.specs.Touched.{Walked};
 ghost use Rattle.walk.specs.Lists.{IsTouched, Lists, ListsBefore};
-ghost use Rattle.walk.specs.Row.{ClearIn, First, RunIn, outlined, MeetingColumns, MeetingRows, MeetsRow};
+ghost use Rattle.walk.specs.Row.{ClearIn, First, RunIn, outlined, MeetingBox, MeetingColumns, MeetingRows, MeetsRow};
 use numbers::wide;
 use screen::Screen;
 use screen::Span;
 use shape::Shape;
 use touch::Edges;
 use touch::RowEdges;
+use touch::Three;
+
+// The columns and the rows of a block of tiles.
+pub struct Spans {
+    pub columns: Span,
+    pub rows: Span,
+}
 
 // Whether no edge separates the tile of a column.
 fn clear_in(screen: Screen, edges: RowEdges, column: u32) -> bool
@@ -120,14 +127,29 @@ fn walk_rows(screen: Screen, edges: Edges, columns: Span, rows: Span, list: &mut
     count
 }
 
+// The columns and the rows that the bounding box of three vertices meets.
+pub fn box_spans(screen: Screen, vertices: Three) -> Spans
+    requires { ⌜ (Allowed screen) × (AllPlaced vertices) ⌝ }
+    ensures { λ r. ⌜ MeetingBox screen vertices r ⌝ }
+{
+    let around = touch::bounds_of(vertices);
+    let columns = screen::meeting(screen.width, screen.s, around.left, around.right);
+    let rows = screen::meeting(screen.height, screen.s, around.top, around.bottom);
+    Spans { columns, rows }
+}
+
 // Writes the numbers of the tiles that the shape touches, rising, at the front of the list, and answers how many there are.
 pub fn touched_tiles(screen: Screen, shape: Shape, list: &mut [u32]) -> u32
     requires { ⌜ (Allowed screen) × (InRange shape) × (4096 ≤ length (now list)) ⌝ }
     ensures { λ r. ⌜ Walked screen shape r (now (list .entry)) (now (list .exit)) ⌝ }
 {
     let vertices = touch::three_of(shape);
-    let around = touch::bounds_of(vertices);
-    let columns = screen::meeting(screen.width, screen.s, around.left, around.right);
-    let rows = screen::meeting(screen.height, screen.s, around.top, around.bottom);
-    walk_rows(screen, touch::edges_of(vertices), columns, rows, list)
+    let spans = box_spans(screen, vertices);
+    walk_rows(
+        screen,
+        touch::edges_of(vertices),
+        spans.columns,
+        spans.rows,
+        list,
+    )
 }

@@ -27,16 +27,17 @@ below-or-last : (i n : ℕ) → i < suc n → (i < n) ⊎ (i ≡ n)
 below-or-last i n h = ⊎-elim (λ (l : i < n). inl l) (λ (l : n ≤ i). inr (omega arith)) (lt-or-ge i n)
 
 module _ (d : Screen) (a : Allowed d) (shape : ℕ → Shape) where
-  unfoldable inside : ℕ → Bool
+  unfoldable pub inside : ℕ → Bool
   inside i = inRange (shape i)
 
-  unfolding inside inside-says : (i : ℕ) → Says (inside i) (InRange (shape i))
+  inside-says : (i : ℕ) → Says (inside i) (InRange (shape i))
+  unfolding inside
   inside-says i = in-range-test (shape i)
 
-  abbrev boxes : ℕ → ℕ
+  abbrev pub boxes : ℕ → ℕ
   boxes i = cond (inside i) (boxTiles d (shape i)) 0
 
-  abbrev touches : ℕ → ℕ
+  abbrev pub touches : ℕ → ℕ
   touches i = cond (inside i) (touchedTiles d (shape i)) 0
 
   -- the totals of the first n shapes
@@ -53,8 +54,8 @@ module _ (d : Screen) (a : Allowed d) (shape : ℕ → Shape) where
 
   -- ---- the definitions hold of the computed numbers
 
-  each : {Is : Shape → ℕ → Type 0} {g : Shape → ℕ} (n : ℕ) → ((s : Shape) → Is s (g s)) → OfEach Is shape n (λ i. cond (inside i) (g (shape i)) 0)
-  each {Is} {g} n is =
+  each : (Is : Shape → ℕ → Type 0) (g : Shape → ℕ) (n : ℕ) → ((s : Shape) → Is s (g s)) → OfEach Is shape n (λ i. cond (inside i) (g (shape i)) 0)
+  each Is g n is =
       record {
         in-range = λ i l r. rw (says-true (inside-says i) r) (is (shape i));
         out-of-range = λ i l r. rw (says-false (inside-says i) r) refl;
@@ -65,8 +66,8 @@ module _ (d : Screen) (a : Allowed d) (shape : ℕ → Shape) where
       record {
         boxes = boxes;
         touches = touches;
-        boxes-are = each n (box-counts d);
-        touches-are = each n (λ s. touched-counts d s a);
+        boxes-are = each (TilesByBox d) (boxTiles d) n (box-counts d);
+        touches-are = each (TilesByTouching d) (touchedTiles d) n (λ s. touched-counts d s a);
         shapes-is = record { test = inside; says = λ i l. inside-says i; sum = h .shapes };
         out-of-range-is = record { test = λ i. not (inside i); says = λ i l. says-not (inside-says i); sum = h .others };
         box-tiles-is = h .boxed;
@@ -176,7 +177,7 @@ module _ (d : Screen) (a : Allowed d) (shape : ℕ → Shape) where
           let x = h .boxed in
           let y = h .touched in
           let e = h .difference in
-          let fewer : u ≤ b = touched≤box (box-counts d (shape n)) (touched-counts d (shape n) a) in
+          let fewer : u ≤ b = touched≤box d (shape n) (box-counts d (shape n)) (touched-counts d (shape n) a) in
           record {
             shapes = rw (inside-n) (omega arith);
             others = rw (inside-n) (omega arith);
@@ -194,12 +195,12 @@ module _ (d : Screen) (a : Allowed d) (shape : ℕ → Shape) where
 -- ---- one answer only
 
 module _ (d : Screen) (shape : ℕ → Shape) (n : ℕ) where
-  each-once : {Is : Shape → ℕ → Type 0} {f g : ℕ → ℕ} → ({s : Shape} {x y : ℕ} → Is s x → Is s y → x ≡ y)
+  each-once : (Is : Shape → ℕ → Type 0) {f g : ℕ → ℕ} → ((s : Shape) (x y : ℕ) → Is s x → Is s y → x ≡ y)
       → OfEach Is shape n f → OfEach Is shape n g → (i : ℕ) → i < n → f i ≡ g i
-  each-once {Is} {f} {g} once h k i l = go (inRange (shape i)) (in-range-test (shape i))
+  each-once Is {f} {g} once h k i l = go (inRange (shape i)) (in-range-test (shape i))
     where
       go : (b : Bool) → Says b (InRange (shape i)) → f i ≡ g i
-      go true s = once (h .in-range i l (s .yes refl)) (k .in-range i l (s .yes refl))
+      go true s = once (shape i) (f i) (g i) (h .in-range i l (s .yes refl)) (k .in-range i l (s .yes refl))
       go false s = h .out-of-range i l (s .no refl) ∙ sym (k .out-of-range i l (s .no refl))
 
   -- the larger of two largest numbers, and the later of two first places, cannot be
@@ -223,8 +224,8 @@ module _ (d : Screen) (shape : ℕ → Shape) (n : ℕ) where
 
   pub totals-once : {t u : Totals} → TotalsOf d shape n t → TotalsOf d shape n u → t ≡ u
   totals-once {t} {u} h k =
-      let boxes = each-once {Is = TilesByBox d} counts-once (h .boxes-are) (k .boxes-are) in
-      let touches = each-once {Is = TilesByTouching d} counts-once (h .touches-are) (k .touches-are) in
+      let boxes = each-once (TilesByBox d) (λ s x y. counts-once) (h .boxes-are) (k .boxes-are) in
+      let touches = each-once (TilesByTouching d) (λ s x y. counts-once) (h .touches-are) (k .touches-are) in
       let shapes = counts-once (h .shapes-is) (k .shapes-is) in
       let others = counts-once (h .out-of-range-is) (k .out-of-range-is) in
       let boxed = h .box-tiles-is ∙ sumTo-same n (h .boxes) (k .boxes) boxes ∙ sym (k .box-tiles-is) in

@@ -12,11 +12,12 @@ use Rattle.numbers.proofs.Sum.{sumTo-same, sumTo-all, sumTo-times, sumTo-rows}
 use Rattle.screen.specs.declared.Screen.{Screen}
 use Rattle.screen.specs.declared.Span.{Span}
 use Rattle.screen.specs.Screen.{Allowed, columns, rows, tiles, columnOf, rowOf}
-use Rattle.screen.specs.Rectangle.{rectangle, In, Meeting}
+use Rattle.screen.specs.Rectangle.{rectangle, In}
 use Rattle.screen.proofs.Laws.{column<, row<, column-is, row-is}
 use Rattle.shape.specs.declared.Shape.{Shape}
-use Rattle.touch.specs.declared.Bounds.{Bounds}
-use Rattle.touch.specs.Corner.{three, bounds, Overlap, Box}
+use Rattle.touch.specs.Corner.{three, Box}
+use Rattle.walk.specs.declared.Spans.{Spans}
+use Rattle.walk.specs.Row.{MeetingBox}
 use Rattle.overlaps.specs.HowMany.{TilesByBox}
 use Rattle.overlaps.proofs.Counting.{one, rising-sum}
 
@@ -77,21 +78,26 @@ module _ (d : Screen) (a : Allowed d) (across down : Span) (a≤ : across .end �
 
 -- ---- the tiles that a box meets
 
-module _ (d : Screen) (a : Allowed d) (shape : Shape) (b : Bounds) (b-is : b ≡ bounds (three shape)) {across down : Span}
-  (x : Meeting (d .width) (d .s) (b .left) (b .right) across) (y : Meeting (d .height) (d .s) (b .top) (b .bottom) down) where
-  meets-box : (t : ℕ) → t < tiles d → Says (test d a across down (x .within) (y .within) t) (Box shape (rectangle d t))
-  meets-box t l =
-      subst (λ (e : Bounds). Says (test d a across down (x .within) (y .within) t) (Overlap e (rectangle d t))) b-is
-      (says-iff
-      (λ h.
-      let m = x .sound (columnOf d t) (h .0) in
-      let n = y .sound (rowOf d t) (h .1) in
-      record { left = m .from; right = m .to; top = n .from; bottom = n .to })
-      (λ h. (
-        x .whole (columnOf d t) (column< d a t) (record { from = h .left; to = h .right }),
-        y .whole (rowOf d t) (row< d a t l) (record { from = h .top; to = h .bottom }),
-      ))
-      (says-and (in-span-says across (columnOf d t)) (in-span-says down (rowOf d t))))
+module _ (d : Screen) (a : Allowed d) (shape : Shape) (spans : Spans) (m : MeetingBox d (three shape) spans) where
+  abbrev x : Span
+  x = spans .columns
 
-  pub box-product : TilesByBox d shape (extent across * extent down)
-  box-product = record { test = test d a across down (x .within) (y .within); says = meets-box; sum = sym (grid-sum d a across down (x .within) (y .within)) }
+  abbrev y : Span
+  y = spans .rows
+
+  meets-box : (t : ℕ) → t < tiles d → Says (test d a x y (m .columns .within) (m .rows .within) t) (Box shape (rectangle d t))
+  meets-box t l =
+      says-iff
+      (λ h.
+      let p = m .columns .sound (columnOf d t) (h .0) in
+      let q = m .rows .sound (rowOf d t) (h .1) in
+      record { left = p .from; right = p .to; top = q .from; bottom = q .to })
+      (λ h. (
+        m .columns .whole (columnOf d t) (column< d a t) (record { from = h .left; to = h .right }),
+        m .rows .whole (rowOf d t) (row< d a t l) (record { from = h .top; to = h .bottom }),
+      ))
+      (says-and (in-span-says x (columnOf d t)) (in-span-says y (rowOf d t)))
+
+  pub box-product : TilesByBox d shape ((x .end - x .start) * (y .end - y .start))
+  box-product =
+      record { test = test d a x y (m .columns .within) (m .rows .within); says = meets-box; sum = sym (grid-sum d a x y (m .columns .within) (m .rows .within)) }

@@ -26,7 +26,7 @@ use Rattle.overlaps.proofs.Tiles.{boxTiles, touchedTiles, box-counts, t
 below-or-last : (i n : ℕ) → i < suc n → (i < n) ⊎ (i ≡ n)
 below-or-last i n h = ⊎-elim (λ (l : i < n). inl l) (λ (l : n ≤ i). inr (omega arith)) (lt-or-ge i n)
 
-module _ (d : Screen) (a : Allowed d) (shape : ℕ → Shape) where
+module _ (d : Screen) (shape : ℕ → Shape) where
   unfoldable pub inside : ℕ → Bool
   inside i = inRange (shape i)
 
@@ -61,8 +61,8 @@ module _ (d : Screen) (a : Allowed d) (shape : ℕ → Shape) where
         out-of-range = λ i l r. rw (says-false (inside-says i) r) refl;
       }
 
-  pub sums-totals : {n : ℕ} {t : Totals} → Sums n t → TotalsOf d shape n t
-  sums-totals {n} h =
+  pub sums-totals : Allowed d → {n : ℕ} {t : Totals} → Sums n t → TotalsOf d shape n t
+  sums-totals a {n} h =
       record {
         boxes = boxes;
         touches = touches;
@@ -78,20 +78,20 @@ module _ (d : Screen) (a : Allowed d) (shape : ℕ → Shape) where
 
   -- ---- how large they are
 
-  few-tiles : {c : ℕ} {P : ℕ → Type 0} → HowMany (tiles d) P c → (b : Bool) → cond b c 0 ≤ 4096
-  few-tiles h true = let t = a .tiles≤ in omega (arith, counts≤ h)
-  few-tiles h false = omega arith
+  few-tiles : Allowed d → {c : ℕ} {P : ℕ → Type 0} → HowMany (tiles d) P c → (b : Bool) → cond b c 0 ≤ 4096
+  few-tiles a h true = let t = a .tiles≤ in omega (arith, counts≤ h)
+  few-tiles a h false = omega arith
 
-  pub sums-bounded : {n : ℕ} {t : Totals} → Sums n t → Bounded n t
-  sums-bounded {n} {t} h =
-      let b = sumTo-most n 4096 boxes (λ i l. few-tiles (box-counts d (shape i)) (inside i)) in
-      let u = sumTo-most n 4096 touches (λ i l. few-tiles (touched-counts d (shape i) a) (inside i)) in
+  pub sums-bounded : Allowed d → {n : ℕ} {t : Totals} → Sums n t → Bounded n t
+  sums-bounded a {n} {t} h =
+      let b = sumTo-most n 4096 boxes (λ i l. few-tiles a (box-counts d (shape i)) (inside i)) in
+      let u = sumTo-most n 4096 touches (λ i l. few-tiles a (touched-counts d (shape i) a) (inside i)) in
       let boxed = h .boxed in
       let touched = h .touched in
       let difference = h .difference in
       record {
-        shapes≤ = counts≤ (sums-totals h .shapes-is);
-        out-of-range≤ = counts≤ (sums-totals h .out-of-range-is);
+        shapes≤ = counts≤ (sums-totals a h .shapes-is);
+        out-of-range≤ = counts≤ (sums-totals a h .out-of-range-is);
         box-tiles≤ = omega arith;
         touched-tiles≤ = omega arith;
         difference≤ = omega arith;
@@ -99,7 +99,7 @@ module _ (d : Screen) (a : Allowed d) (shape : ℕ → Shape) where
 
   -- ---- a shape more
 
-  module _ {n : ℕ} {t : Totals} (h : Sums n t) where
+  module _ (a : Allowed d) {n : ℕ} {t : Totals} (h : Sums n t) where
     -- no shape is in range exactly where their number is 0
     none-inside : t .shapes ≡ 0 → (i : ℕ) → i < n → InRange (shape i) → ⊥
     none-inside e i l r =

@@ -1,10 +1,11 @@
 -- The tiles of a shape by box and by touching, computed; and that the walk's list is as long.
-use mathlib.Core.Path.{refl, sym}
+use mathlib.Core.Path.{refl, sym, subst}
 use mathlib.Core.Bool.{Bool}
 use mathlib.Core.List.{List}
 use Prim.Native.Nat.{ℕ, _≤_, _<_}
 use native.Mathlib.Omega.{arith}
-use lib.ListN.{length, getD}
+use lib.ListN.{length, getD, take}
+use lib.Seq.{length-take-le}
 use Rattle.numbers.specs.Says.{Says}
 use Rattle.numbers.specs.Sum.{sumTo}
 use Rattle.numbers.proofs.Says.{says-true}
@@ -17,7 +18,7 @@ use Rattle.touch.specs.Touches.{Touches}
 use Rattle.touch.specs.Corner.{three, bounds, Box}
 use Rattle.touch.proofs.Answers.{overlap, overlap-says, corner, corner-says-touching}
 use Rattle.touch.proofs.Theorem.{touching-meets-box}
-use Rattle.walk.specs.Touched.{TouchedTiles}
+use Rattle.walk.specs.Touched.{TouchedTiles, Walked}
 use Rattle.walk.proofs.Touched.{rising}
 use Rattle.overlaps.specs.HowMany.{TilesByBox, TilesByTouching}
 use Rattle.overlaps.proofs.Counting.{one, rising-sum, counts-rise}
@@ -65,6 +66,13 @@ module _ (d : Screen) (shape : Shape) where
               all = λ t l e. h .all t l (touched-says a t l .yes e);
             }));
       }
+
+  pub walked-counts : Allowed d → {n : ℕ} {old new : List ℕ} → 4096 ≤ length old → Walked d shape n old new → TilesByTouching d shape n
+  walked-counts a {n} {old} {new} room w =
+      let few = w .few in
+      let most = a .tiles≤ in
+      let size = w .size in
+      subst (TilesByTouching d shape) (length-take-le n new (omega arith)) (list-counts a (take n new) (w .touched))
 
 -- no more tiles are touched than the box meets
 pub touched≤box : (d : Screen) (shape : Shape) {b t : ℕ} → TilesByBox d shape b → TilesByTouching d shape t → t ≤ b

@@ -1,16 +1,14 @@
 -- The totals over a list of shapes: demand 1 holds of them, their contract admits one outcome only, each shape is counted once, and the tiles counted by
 -- touching are those that a bin lists.
-use mathlib.Core.Path.{_≡_, refl, sym, ap, _∙_}
-use mathlib.Core.Logic.{_≢_, inl, inr}
+use mathlib.Core.Path.{_≡_, ap, _∙_}
+use mathlib.Core.Logic.{inl, inr}
 use mathlib.Core.List.{List}
 use Prim.Native.Nat.{ℕ, _+_}
 use native.Mathlib.Omega.{arith}
 use lib.IntN.{ℤ}
 use Rattle.screen.specs.declared.Screen.{Screen}
-use Rattle.screen.specs.Screen.{Allowed}
 use Rattle.shape.specs.declared.Shape.{Shape}
 use Rattle.shapes.specs.Shapes.{countOf, shapeAt}
-use Rattle.overlaps.specs.declared.Totals.{Totals}
 use Rattle.overlaps.specs.HowMany.{TilesByTouching}
 use Rattle.overlaps.proofs.Counting.{counts-once, counts-both}
 use Rattle.overlaps.proofs.Tiles.{list-counts}
@@ -18,7 +16,7 @@ use Rattle.overlaps.proofs.Sums.{totals-once}
 use Rattle.pool.specs.Sound.{screenOf}
 use Rattle.calls.specs.declared.Binned.{Binned}
 use Rattle.calls.specs.declared.Counted.{Counted}
-use Rattle.calls.specs.Tables.{PlaceSays}
+use Rattle.calls.specs.Tables.{PlaceSays, BinSays}
 use Rattle.calls.specs.Overlaps.{OverlapsSays, bad-screen, bad-list, done}
 use Rattle.demands.specs.Overlaps.{Demand1Overlaps}
 
@@ -45,9 +43,11 @@ module _ {ws : List ℤ} {d : Screen} where
   each-counted-once (bad-list l n e) z = absurd (omega (arith, ap (λ (c : Counted). c .number) e))
   each-counted-once (done l r t h e) z = ap (λ (c : Counted). c .totals .shapes + c .totals .«out_of_range») e ∙ counts-both (h .shapes-is) (h .out-of-range-is)
 
--- where a pool is for the screen, a shape that is binned is listed in as many tiles as are counted for it
-pub counted-as-binned : {p q : List ℕ} {shape : Shape} {id c : ℕ} {a : Binned} → Allowed (screenOf p) → TilesByTouching (screenOf p) shape c
-    → PlaceSays p shape id a q → a .number ≡ 0 → a .tiles ≡ c
-counted-as-binned l h (PlaceSays.no-room ts t r e k) z = absurd (omega (arith, ap (λ (b : Binned). b .number) e))
-counted-as-binned {p} {shape = shape} l h (PlaceSays.done ts t r e k) z =
-    ap (λ (b : Binned). b .tiles) e ∙ counts-once (list-counts (screenOf p) shape l ts t) h
+-- a shape that is binned is listed in as many tiles of the pool's screen as are counted for it there
+pub counted-as-binned : {p q : List ℕ} {shape : Shape} {id c : ℕ} {a : Binned} → BinSays p shape id a q → a .number ≡ 0 → TilesByTouching (screenOf p) shape c → a .tiles ≡ c
+counted-as-binned (BinSays.damaged n e k) z h = absurd (omega (arith, ap (λ (b : Binned). b .number) e))
+counted-as-binned (BinSays.bad-id l n e k) z h = absurd (omega (arith, ap (λ (b : Binned). b .number) e))
+counted-as-binned (BinSays.out-of-range l i n e k) z h = absurd (omega (arith, ap (λ (b : Binned). b .number) e))
+counted-as-binned (BinSays.placed l i r (PlaceSays.no-room ts t n e k)) z h = absurd (omega (arith, ap (λ (b : Binned). b .number) e))
+counted-as-binned {p} {shape = shape} (BinSays.placed l i r (PlaceSays.done ts t n e k)) z h =
+    ap (λ (b : Binned). b .tiles) e ∙ counts-once (list-counts (screenOf p) shape (l .opened .screen) ts t) h

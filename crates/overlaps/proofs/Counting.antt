@@ -1,8 +1,8 @@
 -- How many numbers satisfy a condition: there is one such count, it grows with the condition, and a rising list of the numbers is as long.
-use mathlib.Core.Path.{_≡_, refl, sym, ap, subst, _∙_}
+use mathlib.Core.Path.{_≡_, refl, sym, ap, _∙_}
 use mathlib.Core.Bool.{Bool, true, false, not, cond}
 use mathlib.Core.Logic.{_⊎_, ⊎-elim}
-use Prim.Native.Nat.{ℕ, zero, suc, _+_, _-_, _*_, _≤_, _<_}
+use Prim.Native.Nat.{ℕ, zero, suc, _+_, _-_, _≤_, _<_}
 use native.Mathlib.Omega.{arith}
 use Rattle.numbers.specs.Says.{Says}
 use Rattle.numbers.specs.Sum.{sumTo}
@@ -42,8 +42,13 @@ pub counts-both : {n c e : ℕ} {P : ℕ → Type 0} → HowMany n P c → HowMa
 counts-both {n} {c} {e} h k =
     let f : ℕ → ℕ = λ i. one (h .test i) in
     let g : ℕ → ℕ = λ i. one (not (h .test i)) in
-    omega (arith, h .sum, counts-once {c = e} {e = sumTo n g} k (record { test = λ i. not (h .test i); says = λ i l. says-not (h .says i l); sum = refl }),
-    sumTo-add n f g, sumTo-all n 1 (λ i. f i + g i) (λ i l. one-both (h .test i)))
+    omega (
+      arith,
+      h .sum,
+      counts-once {c = e} {e = sumTo n g} k (record { test = λ i. not (h .test i); says = λ i l. says-not (h .says i l); sum = refl }),
+      sumTo-add n f g,
+      sumTo-all n 1 (λ i. f i + g i) (λ i l. one-both (h .test i)),
+    )
 
 -- ---- a rising list of all that pass a test
 

@@ -1,6 +1,6 @@
 -- The tiles that a bounding box meets are those of a span of columns in a span of rows: their number is the product.
-use mathlib.Core.Path.{_≡_, refl, sym, ap, subst, _∙_}
-use mathlib.Core.Bool.{Bool, true, false, cond, _&&_}
+use mathlib.Core.Path.{_≡_, refl, sym, ap, _∙_}
+use mathlib.Core.Bool.{Bool, true, false, _&&_}
 use Prim.Native.Nat.{ℕ, _+_, _-_, _*_, _≤_, _<_}
 use native.Mathlib.Omega.{arith}
 use lib.Dec.{leb, ltb}
@@ -8,7 +8,7 @@ use Rattle.numbers.specs.Says.{Says}
 use Rattle.numbers.specs.Sum.{sumTo}
 use Rattle.numbers.proofs.Says.{says-iff, says-and, says-true}
 use Rattle.numbers.proofs.Deciding.{says-le, says-lt}
-use Rattle.numbers.proofs.Sum.{sumTo-same, sumTo-all, sumTo-times, sumTo-rows}
+use Rattle.numbers.proofs.Sum.{sumTo-same, sumTo-times, sumTo-rows}
 use Rattle.screen.specs.declared.Screen.{Screen}
 use Rattle.screen.specs.declared.Span.{Span}
 use Rattle.screen.specs.Screen.{Allowed, columns, rows, tiles, columnOf, rowOf}

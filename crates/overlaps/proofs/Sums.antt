@@ -2,7 +2,7 @@
 use mathlib.Core.Path.{_≡_, refl, sym, ap, subst, _∙_}
 use mathlib.Core.Bool.{Bool, true, false, not, cond, _||_}
 use mathlib.Core.Logic.{_⊎_, inl, inr, ⊎-elim}
-use Prim.Native.Nat.{ℕ, zero, suc, _+_, _-_, _*_, _≤_, _<_}
+use Prim.Native.Nat.{ℕ, suc, _+_, _-_, _≤_, _<_}
 use native.Mathlib.Omega.{arith}
 use lib.Dec.{eqb, ltb}
 use Rattle.numbers.specs.Says.{Says}
@@ -19,7 +19,7 @@ use Rattle.shape.proofs.Range.{in-range-test}
 use Rattle.overlaps.specs.declared.Totals.{Totals}
 use Rattle.overlaps.specs.HowMany.{HowMany, TilesByBox, TilesByTouching}
 use Rattle.overlaps.specs.Totals.{OfEach, Largest, none, some, TotalsOf}
-use Rattle.overlaps.specs.Adding.{noTotals, leads, withShape, withOther, With, counted, other, Bounded}
+use Rattle.overlaps.specs.Adding.{noTotals, withShape, withOther, With, counted, other, Bounded}
 use Rattle.overlaps.proofs.Counting.{one, counts-once, counts≤}
 use Rattle.overlaps.proofs.Tiles.{boxTiles, touchedTiles, box-counts, touched-counts, touched≤box}
 
@@ -214,7 +214,7 @@ module _ (d : Screen) (shape : ℕ → Shape) (n : ℕ) where
       let x = most p′ l′ r′ in
       let x′ = most′ p l r in
       let equal : m ≡ m′ = omega arith in
-      (equal, omega (arith, not-before (lt-or-ge p p′) , not-after (lt-or-ge p′ p)))
+      (equal, omega (arith, not-before (lt-or-ge p p′), not-after (lt-or-ge p′ p)))
     where
       not-before : (p < p′) ⊎ (p′ ≤ p) → p′ ≤ p
       not-before = ⊎-elim (λ (w : p < p′). let y = first′ p w r in let s = same p l in let x = most p′ l′ r′ in let s′ = same p′ l′ in absurd (omega arith)) (λ (w : p′ ≤ p). w)

@@ -10,7 +10,7 @@ use Rattle.numbers.specs.Says.{Says}
 use Rattle.numbers.specs.Sum.{sumTo}
 use Rattle.numbers.proofs.Says.{says-true}
 use Rattle.screen.specs.declared.Screen.{Screen}
-use Rattle.screen.specs.Screen.{Allowed, tiles, columnOf, rowOf}
+use Rattle.screen.specs.Screen.{Allowed, tiles}
 use Rattle.screen.specs.Rectangle.{rectangle}
 use Rattle.screen.proofs.Laws.{column<, row<, rectangle-proper}
 use Rattle.shape.specs.declared.Shape.{Shape}

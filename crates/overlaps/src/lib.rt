@@ -1,7 +1,7 @@
 // Totals over a list of shapes: how many tiles their bounding boxes meet, how many they touch, and what is between.
 ghost use mathlib.Core.Path.{_≡_};
 ghost use mathlib.Core.Bool.{cond};
-ghost use Prim.Native.Nat.{ℕ, _-_, _≤_, _<_};
+ghost use Prim.Native.Nat.{_-_, _≤_, _<_};
 ghost use lib.ListN.{length};
 ghost use Rattle.screen.specs.Screen.{Allowed};
 ghost use Rattle.shape.specs.Shape.{InRange};
@@ -93,9 +93,10 @@ fn with_other(totals: Totals) -> Totals
     requires { ⌜ totals .«out_of_range» < 1048576 ⌝ }
     ensures { λ r. ⌜ r ≡ withOther totals ⌝ }
 {
+    let more = totals.out_of_range + 1;
     Totals {
         shapes: totals.shapes,
-        out_of_range: totals.out_of_range + 1,
+        out_of_range: more,
         box_tiles: totals.box_tiles,
         touched_tiles: totals.touched_tiles,
         difference: totals.difference,

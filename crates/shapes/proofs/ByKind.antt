@@ -1,5 +1,5 @@
 -- The shape of words goes by their kind: of right words, 1 is a point, 2 a line, 3 a triangle.
-use mathlib.Core.Path.{_≡_, sym, ap, _∙_}
+use mathlib.Core.Path.{_≡_, ap}
 use mathlib.Core.Bool.{Bool, true, false, cond}
 use Prim.Native.Nat.{ℕ}
 use lib.IntN.{ℤ, pos}

@@ -1,10 +1,9 @@
 // Lent lists of shapes: so many i32 words to a shape, of which the first seven are its kind, 1 for a point, 2 for a line, 3 for a triangle, and six
 // coordinates. Those of a vertex that the kind does not have are 0.
 ghost use mathlib.Core.Path.{_≡_};
-ghost use Prim.Native.Nat.{_+_, _≤_};
+ghost use Prim.Native.Nat.{ℕ, _+_, _≤_, _<_};
 ghost use lib.IntN.{pos};
 ghost use lib.ListN.{length, getD};
-ghost use Prim.Native.Nat.{ℕ, _<_};
 ghost use Rattle.numbers.specs.Says.{Says};
 ghost use Rattle.shapes.specs.Shapes.{wordsFrom, RightWords, shapeFrom, CheckSays};
 use shape::Shape;

@@ -75,8 +75,8 @@ loop-again c =
       omega (arith, l .inv .1),
       c .before .before .with .kept .1 .1 .1 .1 .0 ∙ l .inv .2,
       subst (λ (n : ℕ). Sums d (shapeAt 7 ws) n (c .before .before .with .result)) e
-      (sums-more d (shapeAt 7 ws) (s .pre .0) (l .inv .3)
-      (subst (λ (P : Type 0). P) (λ i. With d (shape i) (place i) (l .totals) (c .before .before .with .result)) (c .before .before .with .ensures))),
+          (sums-more d (shapeAt 7 ws) (s .pre .0) (l .inv .3)
+          (subst (λ (P : Type 0). P) (λ i. With d (shape i) (place i) (l .totals) (c .before .before .with .result)) (c .before .before .with .ensures))),
     )
 
 same-length : tie.Need-same-length Inv-loop μ-loop

@@ -4,7 +4,6 @@ use Prim.Native.Nat.{ℕ, _*_}
 use native.Mathlib.Omega.{arith}
 use borrow.Author.Needs.{needs}
 use Rattle.touch.specs.declared.Three.{Three}
-use Rattle.touch.specs.Corner.{three}
 use Rattle.touch.specs.Edges.{AllPlaced}
 use Rattle.touch.proofs.Sizes.{three-placed}
 use Rattle.walk.specs.Row.{MeetingBox}

@@ -62,7 +62,7 @@ loop-again c =
       omega arith,
       omega (arith, l .inv .1),
       below-more (λ i. RightWords (wordsAt (s .args .size) (s .args .list .now) i)) (l .place) (l .inv .2)
-      (subst (λ (k : ℕ). RightWords (wordsFrom (s .args .list .now) k)) (l .inv .1) right),
+          (subst (λ (k : ℕ). RightWords (wordsFrom (s .args .list .now) k)) (l .inv .1) right),
     )
 
 returns-4 : tie.Need-returns-4 Inv-loop μ-loop

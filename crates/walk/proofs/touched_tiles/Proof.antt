@@ -2,14 +2,13 @@
 use mathlib.Core.Path.{sym, ap, subst, _∙_}
 use native.Mathlib.Omega.{arith}
 use borrow.Author.Needs.{needs}
-use Rattle.touch.specs.declared.Three.{Three}
 use Rattle.touch.specs.declared.Edges.{Edges}
 use Rattle.touch.specs.Corner.{three}
 use Rattle.touch.specs.Edges.{AllPlaced, edgesOf, Outline}
 use Rattle.touch.proofs.Sizes.{three-placed, outline}
 use Rattle.touch.proofs.Weights.{touches-as-triangle}
 use Rattle.walk.specs.Lists.{IsTouched, Lists}
-use Rattle.walk.specs.Row.{outlined, MeetingBox, MeetingColumns, MeetingRows}
+use Rattle.walk.specs.Row.{outlined, MeetingColumns, MeetingRows}
 use Rattle.walk.proofs.Lists.{lists-iff}
 use Rattle.walk.proofs.Touched.{lists-walked}
 use Rattle.walk.proofs.touched_tiles.Statement.{statement}

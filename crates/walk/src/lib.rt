@@ -1,6 +1,5 @@
 // The row walk: the tiles that a shape touches, once each, in rising number. Row by row in the bounding box, left to right; a row is left after its run of touched tiles.
 // No tile outside the box is tested, and none twice.
-ghost use mathlib.Core.Path.{_≡_};
 ghost use mathlib.Core.List.{List};
 ghost use Prim.Native.Nat.{ℕ, _+_, _*_, _≤_, _<_};
 ghost use lib.ListN.{length};

@@ -61,6 +61,18 @@ pub fn vertices(words: &[i32]) -> Vec<Vertex> {
     words[1..].chunks(2).take(words[0] as usize).map(|vertex| [vertex[0], vertex[1]]).collect()
 }
 
+/// How many tiles of a screen the box of a shape meets, how many the shape touches, and how many only the box has.
+fn tiles(screen: Screen, shape: &[Vertex]) -> [u128; 3] {
+    let mut tiles = [0; 3];
+    for rectangle in (0..screen.tiles()).map(|tile| screen.rectangle(tile)) {
+        let (boxed, touched) = (box_meets(shape, rectangle), touches(shape, rectangle));
+        for (tiles, counts) in tiles.iter_mut().zip([boxed, touched, boxed && !touched]) {
+            *tiles += u128::from(counts);
+        }
+    }
+    tiles
+}
+
 /// The totals of a list on a screen, or the number of the refusal. Each different shape is asked about once, at every tile.
 pub fn overlaps(screen: Screen, list: &[i32]) -> Result<Totals, u32> {
     if !screen.allowed() {
@@ -74,23 +86,21 @@ pub fn overlaps(screen: Screen, list: &[i32]) -> Result<Totals, u32> {
     for (place, words) in (0..).zip(list.chunks(WORDS_OF_SHAPE)) {
         different.entry(words).or_insert((0, place)).0 += 1;
     }
-    let (inside, outside): (Vec<_>, Vec<_>) = different
-        .into_iter()
-        .map(|(words, standing)| (vertices(words), standing))
-        .partition(|(shape, _)| in_range(shape));
-    let times = |shapes: &[(Vec<Vertex>, (u128, u128))]| shapes.iter().map(|(_, (times, _))| times).sum();
-    let mut totals = Totals { shapes: times(&inside), out_of_range: times(&outside), ..Totals::default() };
-    let mut touched = Vec::new();
-    for (shape, (times, first)) in &inside {
-        let at_tiles = (0..screen.tiles()).map(|tile| screen.rectangle(tile));
-        let answers: Vec<_> = at_tiles.map(|tile| (box_meets(shape, tile), touches(shape, tile))).collect();
-        let count = |tile: fn(&&(bool, bool)) -> bool| answers.iter().filter(tile).count() as u128;
-        totals.box_tiles += times * count(|(boxed, _)| *boxed);
-        totals.touched_tiles += times * count(|(_, touched)| *touched);
-        totals.difference += times * count(|(boxed, touched)| *boxed && !*touched);
-        touched.push((count(|(_, touched)| *touched), Reverse(*first)));
+    let (mut totals, mut by_touching) = (Totals::default(), Vec::new());
+    for (words, (times, first)) in different {
+        let shape = vertices(words);
+        if !in_range(&shape) {
+            totals.out_of_range += times;
+            continue;
+        }
+        let [boxed, touched, only_boxed] = tiles(screen, &shape);
+        totals.shapes += times;
+        totals.box_tiles += times * boxed;
+        totals.touched_tiles += times * touched;
+        totals.difference += times * only_boxed;
+        by_touching.push((touched, Reverse(first)));
     }
-    if let Some((largest, Reverse(place))) = touched.into_iter().max() {
+    if let Some((largest, Reverse(place))) = by_touching.into_iter().max() {
         (totals.largest, totals.place) = (largest, place);
     }
     Ok(totals)

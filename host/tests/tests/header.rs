@@ -1,4 +1,4 @@
-//! The C header says what the wrapper and the model say: numbers, texts, limits, version and its examples.
+//! The C header says what the wrapper and the model say: numbers, texts, limits, version, declarations and examples.
 
 use flourscoop::{Refusal, Shape, Vertex};
 use model::layout::Layout;
@@ -7,6 +7,7 @@ use model::overlaps::{overlaps, Totals, MOST_SHAPES, WORDS_OF_SHAPE};
 use model::pool::{State, POISON};
 
 const HEADER: &str = include_str!("../../include/flourscoop.h");
+const WRAPPER: &str = include_str!("../../flourscoop/src/raw.rs");
 
 /// What follows `#define NAME ` in the header.
 fn defined(name: &str) -> &'static str {
@@ -61,6 +62,46 @@ fn the_version_is_the_crates() {
     assert_eq!(defined("FLOURSCOOP_VERSION"), format!("{:?}", env!("CARGO_PKG_VERSION")));
     let parts = ["MAJOR", "MINOR", "PATCH"].map(|part| defined(&format!("FLOURSCOOP_VERSION_{part}")));
     assert_eq!(parts.join("."), env!("CARGO_PKG_VERSION"));
+}
+
+/// The declarations of a text, in its order: all that stands from one of these starts up to its first semicolon.
+fn declarations(text: &'static str, start: &str) -> Vec<&'static str> {
+    let from = |(at, _)| text[at + start.len()..].split_once(';').unwrap().0;
+    text.match_indices(start).map(from).collect()
+}
+
+/// The types of the header, and of the wrapper.
+const TYPES: [(&str, &str); 5] =
+    [("uint32_t", "u32"), ("int32_t", "i32"), ("uint64_t", "u64"), ("size_t", "usize"), ("float", "f32")];
+
+/// A parameter of the header as the wrapper has it.
+fn in_rust(parameter: &str) -> String {
+    let (c_type, name) = parameter.trim().rsplit_once([' ', '*']).unwrap();
+    let (c_type, pointer) = match (c_type.trim().strip_prefix("const "), parameter.contains('*')) {
+        (Some(c_type), _) => (c_type, "*const "),
+        (None, true) => (c_type.trim(), "*mut "),
+        (None, false) => (c_type, ""),
+    };
+    let (_, rust_type) = TYPES.into_iter().find(|(known, _)| *known == c_type).unwrap();
+    format!("{name}: {pointer}{rust_type}")
+}
+
+/// A declaration of the header as the wrapper has it.
+fn declared_in_rust(declaration: &str) -> String {
+    let (name, rest) = declaration.split_once('(').unwrap();
+    let parameters: Vec<String> = rest.trim_end_matches(')').split(',').map(in_rust).collect();
+    format!("{name}({}) -> u32", parameters.join(", "))
+}
+
+#[test]
+fn the_declarations_are_the_wrapper_s() {
+    let one_line = |declaration: &str| declaration.split_whitespace().collect::<Vec<_>>().join(" ");
+    let mut header: Vec<String> = declarations(HEADER, "\nuint32_t ").into_iter().map(declared_in_rust).collect();
+    let mut wrapper: Vec<String> = declarations(WRAPPER, "    fn ").into_iter().map(one_line).collect();
+    header.sort();
+    wrapper.sort();
+    assert_eq!(header.len(), 20);
+    assert_eq!(header, wrapper);
 }
 
 /// The words of the header's examples: each line has its first and last word, and what they are.

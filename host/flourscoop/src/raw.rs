@@ -164,6 +164,7 @@ pub fn overlaps(screen: Screen, list: &[i32]) -> Answer<Overlaps> {
         place: UNWRITTEN,
     };
     let Overlaps { shapes, out_of_range, box_tiles, touched_tiles, difference, largest, place } = &mut values;
+    // the pointers are those of references that live through the call
     #[rustfmt::skip]
     let number = unsafe {
         flourscoop_overlaps(list.as_ptr(), list.len(), width, height, s,

@@ -14,27 +14,23 @@ pub struct Size {
 /// What was counted.
 pub struct Counted {
     pub sizes: Vec<Size>,
-    /// the line of each shape that was counted
+    /// the line of each shape that was counted, in range or not
     pub lines: Vec<usize>,
     /// the shapes that have no units, each with its line
     pub refused: Vec<(usize, Refusal)>,
 }
 
-/// A shape that is out of range, whatever the screen.
+/// A shape that is out of range.
 const OUT_OF_RANGE: Shape<Vertex> = Shape::Point(Vertex { x: i32::MAX, y: i32::MAX });
 
-/// The shape in units; one that is out of range stays so.
+/// The shape in units, or its first offence, vertices in order with x before y.
 fn in_units(shape: Shape<Pixel>) -> Result<Shape<Vertex>, Refusal> {
-    let vertex = |pixel: Pixel| Ok(Vertex { x: unit(pixel.x)?, y: unit(pixel.y)? });
-    let shape = match shape {
-        Shape::Point(a) => vertex(a).map(Shape::Point),
-        Shape::Line(a, b) => vertex(a).and_then(|a| Ok(Shape::Line(a, vertex(b)?))),
-        Shape::Triangle(a, b, c) => vertex(a).and_then(|a| Ok(Shape::Triangle(a, vertex(b)?, vertex(c)?))),
-    };
-    match shape {
-        Err(Refusal::OutOfRange) => Ok(OUT_OF_RANGE),
-        other => other,
-    }
+    let vertex = |pixel: Pixel| Ok::<_, Refusal>(Vertex { x: unit(pixel.x)?, y: unit(pixel.y)? });
+    Ok(match shape {
+        Shape::Point(a) => Shape::Point(vertex(a)?),
+        Shape::Line(a, b) => Shape::Line(vertex(a)?, vertex(b)?),
+        Shape::Triangle(a, b, c) => Shape::Triangle(vertex(a)?, vertex(b)?, vertex(c)?),
+    })
 }
 
 /// The totals of all shapes that the list bins, or why there are none for any s.
@@ -43,7 +39,11 @@ pub fn count(list: &List) -> Result<Counted, Refusal> {
     for (line, call) in &list.calls {
         let shape = match *call {
             Call::Bin(_, shape) => Ok(shape),
-            Call::BinPixels(_, shape) => in_units(shape),
+            Call::BinPixels(_, shape) => match in_units(shape) {
+                // counted apart, as one in units is
+                Err(Refusal::OutOfRange) => Ok(OUT_OF_RANGE),
+                other => other,
+            },
             Call::Release(_) => continue,
         };
         match shape {

@@ -68,7 +68,9 @@ fn edge(a: Vertex, b: Vertex, x: i64, y: i64) -> i64 {
     (x - from_x) * (i64::from(b.y) - from_y) - (y - from_y) * (i64::from(b.x) - from_x)
 }
 
-/// Whether all four corners of a tile lie strictly on the outer side of one of the edges.
+/// Whether all four corners of a tile lie strictly on the outer side of one of the edges. In line for the binner and for the
+/// totals, as it would be for either alone.
+#[inline(always)]
 fn apart(v: [Vertex; 3], left: i64, top: i64, wide: i64, high: i64) -> bool {
     let area = edge(v[0], v[1], i64::from(v[2].x), i64::from(v[2].y));
     let corners = [(left, top), (left + wide, top), (left, top + high), (left + wide, top + high)];
@@ -85,13 +87,11 @@ impl Grid {
         Grid { x: Axis::of(screen.width, screen.s), y: Axis::of(screen.height, screen.s) }
     }
 
-    /// The columns and the rows that meet the box of a shape.
-    fn boxed(&self, v: [Vertex; 3]) -> [Range<i64>; 2] {
-        [self.x.meeting(v.map(|v| v.x)), self.y.meeting(v.map(|v| v.y))]
-    }
-
-    /// Finds each tile of these columns and rows that a shape touches.
-    fn touched(&self, v: [Vertex; 3], [columns, rows]: [Range<i64>; 2], mut found: impl FnMut(usize)) {
+    /// Finds each tile that a shape touches; the answer is how many tiles its box meets.
+    #[inline(always)]
+    fn touched(&self, v: [Vertex; 3], mut found: impl FnMut(usize)) -> u64 {
+        let (columns, rows) = (self.x.meeting(v.map(|v| v.x)), self.y.meeting(v.map(|v| v.y)));
+        let boxed = [&columns, &rows].map(|along| (along.end - along.start).max(0) as u64);
         for (columns, wide) in self.x.by_length(columns) {
             for row in rows.clone() {
                 let (top, high) = (row * self.y.side, self.y.length(row));
@@ -102,6 +102,7 @@ impl Grid {
                 }
             }
         }
+        boxed[0] * boxed[1]
     }
 }
 
@@ -114,7 +115,7 @@ impl Plain {
     pub fn bin(&mut self, id: u32, shape: Shape<Vertex>) -> usize {
         let (v, Plain { grid, lists }) = (vertices(shape), self);
         let mut listed = 0;
-        grid.touched(v, grid.boxed(v), |tile| {
+        grid.touched(v, |tile| {
             lists[tile].push(id);
             listed += 1;
         });
@@ -148,12 +149,9 @@ pub fn overlaps(screen: Screen, list: &[i32]) -> Overlaps {
             2 => [a, b, b],
             _ => [a, b, c],
         };
-        let boxed = grid.boxed(v);
-        let [columns, rows] = boxed.clone().map(|along| (along.end - along.start).max(0) as u64);
         let mut touched = 0;
-        grid.touched(v, boxed, |_| touched += 1);
+        box_tiles += grid.touched(v, |_| touched += 1);
         shapes += 1;
-        box_tiles += columns * rows;
         touched_tiles += u64::from(touched);
         if largest.is_none_or(|(most, _)| most < touched) {
             largest = Some((touched, place));

@@ -1,5 +1,6 @@
 /* Every call by include/flourscoop.h, from C or C++: document 01's pool case, one answer and one refusal of each, marks, and
-   the blocks that they ask for, all in both editions; tiles that the screen cuts; the header's rooms, texts and version. */
+   the blocks that they ask for, all in both editions; tiles that the screen cuts; lists of shapes; the header's rooms, texts
+   and version. */
 #include <float.h>
 #include <math.h>
 #include <stdio.h>
@@ -27,6 +28,25 @@ static size_t room;
 static uint32_t pool[MOST_WORDS], kept[MOST_WORDS];
 
 static uint32_t cut[CUT_WORDS];
+
+/* The list of the header's example, its totals in the order of the call, and the totals of a refusal. */
+enum { LISTED = 5, LIST_WORDS = LISTED * FLOURSCOOP_SHAPE_WORDS };
+static const int32_t listed[LIST_WORDS] = {
+    FLOURSCOOP_POINT, 262144, 10, 0, 0, 0, 0,
+    FLOURSCOOP_LINE, 0, 0, 512, 512, 0, 0,
+    FLOURSCOOP_TRIANGLE, 0, 0, 1024, 0, 0, 512,
+    FLOURSCOOP_TRIANGLE, 0, 0, 0, 512, 1024, 0,
+    FLOURSCOOP_POINT, 1025, 10, 0, 0, 0, 0,
+};
+static const uint64_t listed_totals[7] = {4, 1, 22, 19, 3, 7, 2}, no_totals[7] = {0};
+
+/* The totals of a call, with words beside each that it should leave. */
+struct totals {
+    uint32_t beside_0, shapes, beside_1, out_of_range;
+    uint64_t beside_2, box_tiles, beside_3, touched_tiles, beside_4, difference, beside_5;
+    uint32_t largest, beside_6, place, beside_7;
+};
+
 static uint32_t value, other;
 static int passed, failed;
 
@@ -349,6 +369,68 @@ static void ends(void)
            FLOURSCOOP_DONE, 0, 0);
 }
 
+/* Counts a call with the number and the totals that it should have given. */
+static void expect_totals(const char *name, const int32_t *list, size_t words, uint32_t s, uint32_t wanted,
+                          const uint64_t *values)
+{
+    struct totals written, right;
+    uint32_t number;
+    memset(&written, 0xAA, sizeof written);
+    right = written;
+    right.shapes = (uint32_t)values[0];
+    right.out_of_range = (uint32_t)values[1];
+    right.box_tiles = values[2];
+    right.touched_tiles = values[3];
+    right.difference = values[4];
+    right.largest = (uint32_t)values[5];
+    right.place = (uint32_t)values[6];
+    number = flourscoop_overlaps(list, words, WIDTH, HEIGHT, s, &written.shapes, &written.out_of_range,
+                                 &written.box_tiles, &written.touched_tiles, &written.difference, &written.largest,
+                                 &written.place);
+    expect_that(number == wanted && memcmp(&written, &right, sizeof right) == 0, name);
+}
+
+/* The example with one word changed. */
+static void expect_wrong_word(size_t place, int32_t word)
+{
+    int32_t wrong[LIST_WORDS];
+    memcpy(wrong, listed, sizeof wrong);
+    wrong[place] = word;
+    expect_totals("a wrong word is found", wrong, LIST_WORDS, S, FLOURSCOOP_LIST, no_totals);
+    expect_totals("a wrong word comes after the screen", wrong, LIST_WORDS, 7, FLOURSCOOP_SCREEN, no_totals);
+}
+
+/* Lists of shapes: the header's example, no list, faults, and as many shapes as there may be. */
+static void lists_of_shapes(void)
+{
+    static int32_t longest[(FLOURSCOOP_MOST_SHAPES + 1) * FLOURSCOOP_SHAPE_WORDS];
+    static const uint64_t all[7] = {FLOURSCOOP_MOST_SHAPES, 0, FLOURSCOOP_MOST_SHAPES, FLOURSCOOP_MOST_SHAPES, 0, 1, 0};
+    const size_t most = FLOURSCOOP_MOST_SHAPES * FLOURSCOOP_SHAPE_WORDS;
+    expect_totals("the example", listed, LIST_WORDS, S, FLOURSCOOP_DONE, listed_totals);
+    expect_totals("the example on no screen", listed, LIST_WORDS, 7, FLOURSCOOP_SCREEN, no_totals);
+    expect_totals("no list", NULL, 0, S, FLOURSCOOP_DONE, no_totals);
+    expect_totals("no list on no screen", NULL, 0, 2, FLOURSCOOP_SCREEN, no_totals);
+    for (size_t words = 1; words < LIST_WORDS; words++)
+        if (words % FLOURSCOOP_SHAPE_WORDS != 0)
+            expect_totals("a part of a shape", listed, words, S, FLOURSCOOP_LIST, no_totals);
+    for (size_t shape = 0; shape < LISTED; shape++) {
+        const size_t first = shape * FLOURSCOOP_SHAPE_WORDS;
+        expect_wrong_word(first, 0);
+        expect_wrong_word(first, 4);
+        expect_wrong_word(first, INT32_MIN);
+        for (size_t unused = 1 + 2 * (size_t)listed[first]; unused < FLOURSCOOP_SHAPE_WORDS; unused++) {
+            expect_wrong_word(first + unused, 1);
+            expect_wrong_word(first + unused, INT32_MIN);
+        }
+    }
+    for (size_t place = 0; place < most + FLOURSCOOP_SHAPE_WORDS; place += FLOURSCOOP_SHAPE_WORDS)
+        longest[place] = FLOURSCOOP_POINT;
+    expect_totals("1,048,576 shapes", longest, most, S, FLOURSCOOP_DONE, all);
+    expect_totals("1,048,577 shapes", longest, most + FLOURSCOOP_SHAPE_WORDS, S, FLOURSCOOP_LIST, no_totals);
+    longest[most - 1] = 1;
+    expect_totals("their last word", longest, most, S, FLOURSCOOP_LIST, no_totals);
+}
+
 /* One refusal of each number. */
 static void refusals(void)
 {
@@ -406,12 +488,14 @@ static void rooms(void)
 /* Each number has a text of its own, and so have all others together; the version is said twice alike. */
 static void texts(void)
 {
+    static const uint32_t numbers[] = {0, 1, 2, 3, 4, 5, 6, 7, 8, 9, 10, 11, 15}, unknown[] = {12, 14, 16, UINT32_MAX};
     char version[32];
-    for (uint32_t number = 0; number <= FLOURSCOOP_NO_PLACE + 1; number++)
-        for (uint32_t lower = 0; lower < number; lower++)
-            expect_that(strcmp(flourscoop_number_text(lower), flourscoop_number_text(number)) != 0,
-                        flourscoop_number_text(number));
-    expect_that(flourscoop_number_text(UINT32_MAX) == flourscoop_number_text(11), "the text of an unknown number");
+    for (size_t at = 0; at < sizeof numbers / sizeof *numbers; at++)
+        for (size_t before = 0; before < at; before++)
+            expect_that(strcmp(flourscoop_number_text(numbers[before]), flourscoop_number_text(numbers[at])) != 0,
+                        flourscoop_number_text(numbers[at]));
+    for (size_t at = 0; at < sizeof unknown / sizeof *unknown; at++)
+        expect_that(flourscoop_number_text(unknown[at]) == flourscoop_number_text(11), "the text of an unknown number");
     snprintf(version, sizeof version, "%d.%d.%d", FLOURSCOOP_VERSION_MAJOR, FLOURSCOOP_VERSION_MINOR,
              FLOURSCOOP_VERSION_PATCH);
     expect_that(strcmp(version, FLOURSCOOP_VERSION) == 0, "the version and its parts agree");
@@ -431,6 +515,7 @@ int main(void)
     units();
     questions();
     ends();
+    lists_of_shapes();
     rooms();
     texts();
     printf("%s: %d passed, %d failed\n", language, passed, failed);

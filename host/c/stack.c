@@ -21,6 +21,13 @@ static uint32_t *pool;
 static size_t words;
 static uint32_t number, value, other;
 static int32_t units;
+static const int32_t list[] = {
+    FLOURSCOOP_TRIANGLE, 0, 0, 12800, 0, 0, 7680,
+    FLOURSCOOP_LINE, 0, 0, 12800, 7680, 0, 0,
+    FLOURSCOOP_POINT, 256, 256, 0, 0, 0, 0,
+};
+static uint32_t counts[4];
+static uint64_t totals[3];
 
 static void nothing(void) { number = FLOURSCOOP_DONE; }
 static void open_one(void) { number = flourscoop_open(one, WORDS_ONE, WIDTH, HEIGHT, S, BLOCKS); }
@@ -50,6 +57,11 @@ static void corner_line(void) { number = flourscoop_corner_line(WIDTH, HEIGHT, S
 static void corner_triangle(void)
 {
     number = flourscoop_corner_triangle(WIDTH, HEIGHT, S, 700, 0, 0, 12800, 0, 0, 7680, &value);
+}
+static void overlaps(void)
+{
+    number = flourscoop_overlaps(list, sizeof list / sizeof *list, WIDTH, HEIGHT, S, &counts[0], &counts[1], &totals[0],
+                                 &totals[1], &totals[2], &counts[2], &counts[3]);
 }
 
 /* How many bytes from the top of the stack a run of the call reaches. */
@@ -94,6 +106,7 @@ int main(void)
         {"corner_point", corner_point},
         {"corner_line", corner_line},
         {"corner_triangle", corner_triangle},
+        {"overlaps", overlaps},
     };
     size_t least = reach(nothing);
     puts("| call | stack, bytes |\n|---|---|");

@@ -12,16 +12,19 @@
  * POINTERS
  *   pool, words   a slice: its first word and how many words it has. Aligned as a uint32_t is, to 4 bytes. Where words is
  *                 0, pool may be null.
- *   the others    each to one uint32_t or int32_t, not null, not in the pool, no two the same.
+ *   list, words   likewise, of int32_t; it is only read.
+ *   the others    each to one uint32_t, int32_t or uint64_t, aligned as that is, a uint64_t to 8 bytes. Not null, not in the
+ *                 pool or the list, no two the same.
  *
  * THREADS AND INTERRUPTS
  *   Calls on different pools are independent and may run at the same time. Calls on one pool must not overlap; two calls
- *   of which each only audits, reads or asks for a mark may. Calls that take no pool may always run.
+ *   of which each only audits, reads or asks for a mark may. Calls that take no pool may always run, several on one list of
+ *   shapes too, as long as nothing writes to that.
  *
- * STACK, in bytes, as measured, on x86-64 in an emulator; of bin's, 16,384 list the touched tiles
- *               bin      audit   read    high_water   release   corner   box   open, open_two   unit
- *     x86-64    17,328   2,336   2,368   2,368        2,416     352      192   144              16
- *     Arm       17,232   2,288   2,320   2,304        2,304     240      160   128              32
+ * STACK, in bytes, as measured, on x86-64 in an emulator; of bin's and of overlaps', 16,384 list the touched tiles
+ *               bin      overlaps   audit   read    high_water   release   corner   box   open, open_two   unit
+ *     x86-64    17,328   -          2,336   2,368   2,368        2,416     352      192   144              16
+ *     Arm       17,344   17,216     2,288   2,320   2,304        2,304     240      160   128              32
  *
  * SCREEN AND UNITS
  *   A screen has a width and a height of 1 to 4,096 pixels. A tile is a square of 2^s by 2^s pixels, s from 3 to 6, cut
@@ -37,6 +40,23 @@
  *   off. Where it flushes subnormal numbers to zero, no answer changes.
  *   Vertices may come in any order and may coincide; a triangle without area is its longest side, a line without length
  *   its point.
+ *
+ * A LIST OF SHAPES
+ *   It is lent to flourscoop_overlaps. A shape has seven words: its kind and six coordinates in units. Those that the kind
+ *   does not use are 0.
+ *     1, x1, y1, 0, 0, 0, 0        a point
+ *     2, x1, y1, x2, y2, 0, 0      a line
+ *     3, x1, y1, x2, y2, x3, y3    a triangle
+ *   The shapes stand one after the other, at most 1,048,576 of them; there may be none. Their places count from 0. A
+ *   coordinate may be any int32_t: a shape with one out of range is counted apart, and adds nothing else.
+ *
+ *   An example, on a screen of 64 by 32 with s = 4, which has four columns and two rows of tiles:
+ *     place 0    1, 262144, 10, 0, 0, 0, 0       out of range
+ *     place 1    2, 0, 0, 512, 512, 0, 0         its box meets 6 tiles, of which it touches 5
+ *     place 2    3, 0, 0, 1024, 0, 0, 512        8, and 7
+ *     place 3    3, 0, 0, 0, 512, 1024, 0        8, and 7
+ *     place 4    1, 1025, 10, 0, 0, 0, 0         none: it is off the screen
+ *     totals     shapes 4, out of range 1, tiles by box 22, by touching 19, difference 3, largest 7, its place 2
  *
  * THE POOL
  *   It is of one of two editions, and every call reads either. With a header of H words and B words to a block, it needs
@@ -104,9 +124,9 @@ extern "C" {
 
 /* The version of this header, and of the archive that goes with it. */
 #define FLOURSCOOP_VERSION_MAJOR 0
-#define FLOURSCOOP_VERSION_MINOR 4
+#define FLOURSCOOP_VERSION_MINOR 5
 #define FLOURSCOOP_VERSION_PATCH 0
-#define FLOURSCOOP_VERSION "0.4.0"
+#define FLOURSCOOP_VERSION "0.5.0"
 
 /* The numbers; their texts follow. Where several causes apply, each call's comment has the order of looking for them. */
 #define FLOURSCOOP_DONE 0u
@@ -120,6 +140,7 @@ extern "C" {
 #define FLOURSCOOP_NO_ROOM 8u
 #define FLOURSCOOP_NO_TILE 9u
 #define FLOURSCOOP_NO_PLACE 10u
+#define FLOURSCOOP_LIST 15u
 
 /* What a number means, in a text that is never to be freed. A number that no call returns has one too. */
 static inline const char *flourscoop_number_text(uint32_t number)
@@ -136,6 +157,7 @@ static inline const char *flourscoop_number_text(uint32_t number)
     case FLOURSCOOP_NO_ROOM: return "the shape needs more blocks than are free";
     case FLOURSCOOP_NO_TILE: return "there is no such tile";
     case FLOURSCOOP_NO_PLACE: return "the place is at or past the tile's number of entries";
+    case FLOURSCOOP_LIST: return "the list is too long or not of whole shapes, or a kind or an unused word is wrong";
     default: return "no call returns this number";
     }
 }
@@ -150,6 +172,13 @@ static inline const char *flourscoop_number_text(uint32_t number)
     (8u + FLOURSCOOP_TABLE(width, height, s) + 32u * (size_t)(blocks))
 #define FLOURSCOOP_ROOM_TWO(width, height, s, blocks, block_words) \
     (10u + FLOURSCOOP_TABLE(width, height, s) + (size_t)(block_words) * (size_t)(blocks))
+
+/* The words of a shape in a list, the most shapes that a list may have, and their kinds. */
+#define FLOURSCOOP_SHAPE_WORDS 7u
+#define FLOURSCOOP_MOST_SHAPES 1048576u
+#define FLOURSCOOP_POINT 1
+#define FLOURSCOOP_LINE 2
+#define FLOURSCOOP_TRIANGLE 3
 
 /*
  * Opens a pool of edition one: all tiles empty, all marks 0, all blocks free. What stood in the words before does not
@@ -256,6 +285,20 @@ uint32_t flourscoop_corner_line(uint32_t width, uint32_t height, uint32_t s, uin
 uint32_t flourscoop_corner_triangle(uint32_t width, uint32_t height, uint32_t s, uint32_t tile,
                                     int32_t x1, int32_t y1, int32_t x2, int32_t y2, int32_t x3, int32_t y3,
                                     uint32_t *touches);
+
+/*
+ * Counts the tiles of a screen that the shapes of a list overlap; made for each s, it tells a planner which to choose.
+ * Writes how many shapes have all their coordinates in range, and how many have not. Over those in range it writes
+ *   - the sum of the tiles that meet a shape's bounding box, and of those that the shape touches, as flourscoop_box_* and
+ *     flourscoop_corner_* say of each tile; and their difference, the false overlaps;
+ *   - the largest number of tiles that one shape touches, and the first place of one that touches so many. Places count all
+ *     shapes of the list. With no shape in range both are 0.
+ * Returns 0; or 1, 15, in this order.
+ */
+uint32_t flourscoop_overlaps(const int32_t *list, size_t words, uint32_t width, uint32_t height, uint32_t s,
+                             uint32_t *shapes, uint32_t *out_of_range,
+                             uint64_t *box_tiles, uint64_t *touched_tiles, uint64_t *difference,
+                             uint32_t *largest, uint32_t *place);
 
 #ifdef __cplusplus
 }

@@ -1,16 +1,18 @@
-//! Nanoseconds per call of the archive beside a plain Rust binner, in five runs; of another version's archive, where one is
-//! given, the unit too. Screen 800 by 480, s = 4, 2,048 blocks; pools of edition one and, in the rows that say so, of edition
-//! two with 64 words to a block.
+//! Nanoseconds per call of the archive beside a plain Rust binner, in five runs; of the totals of a list, per shape; of another
+//! version's archive, where one is given, the unit too. Screen 800 by 480, s = 4, 2,048 blocks; pools of edition one and, in
+//! the rows that say so, of edition two with 64 words to a block.
 
 mod clock;
 mod plain;
+mod shapes;
 mod table;
 mod unit;
 
 use std::hint::black_box;
 
-use flourscoop::{raw, room, room_two, Screen, Shape, Vertex};
+use flourscoop::{list_of, raw, room, room_two, Screen, Shape, Vertex};
 use plain::Plain;
+use shapes::{small, triangle, wide};
 use table::{Beside, Row};
 use unit::Unit;
 
@@ -37,34 +39,6 @@ fn middle(times: impl Iterator<Item = f64>) -> f64 {
 /// The middle of the times of all rounds.
 fn time<P>(calls: usize, prepare: impl Fn() -> P, run: impl Fn(&mut P)) -> f64 {
     middle((0..ROUNDS).map(|_| round(calls, &prepare, &run)))
-}
-
-fn triangle([x1, y1]: [i32; 2], [x2, y2]: [i32; 2], [x3, y3]: [i32; 2]) -> Shape<Vertex> {
-    Shape::Triangle(Vertex { x: x1, y: y1 }, Vertex { x: x2, y: y2 }, Vertex { x: x3, y: y3 })
-}
-
-/// Triangles that touch one tile each, over the whole screen.
-fn small(count: u32) -> Vec<Shape<Vertex>> {
-    let at = |k: u32| {
-        let tile = k * 7 % TILES;
-        let (left, top) = ((tile % 50 * 256) as i32, (tile / 50 * 256) as i32);
-        triangle([left + 20, top + 30], [left + 200, top + 60], [left + 90, top + 210])
-    };
-    (0..count).map(at).collect()
-}
-
-/// Triangles that reach from side to side of the screen, in both windings.
-fn wide(count: u32) -> Vec<Shape<Vertex>> {
-    let at = |k: u32| {
-        let k = k as i32 * 11;
-        let (a, b, c) = ([k, 0], [12_800, k], [12_000 - k, 7_680]);
-        if k % 2 == 0 {
-            triangle(a, b, c)
-        } else {
-            triangle(a, c, b)
-        }
-    };
-    (0..count).map(at).collect()
 }
 
 /// An edition; the second with so many words to a block.
@@ -282,6 +256,20 @@ fn least_bin() -> Row {
     row("bin, a triangle off a screen of one tile, no block", bin, Beside::Nothing)
 }
 
+/// The totals of a list of these shapes, by the archive and by plain Rust.
+fn totals(kind: &str, shapes: &[Shape<Vertex>]) -> Row {
+    let list = list_of(shapes.iter().copied());
+    assert_eq!(raw::overlaps(SCREEN, &list).done(), Ok(plain::overlaps(SCREEN, &list)));
+    let each = |run: &dyn Fn(&[i32])| time(shapes.len(), || (), |()| run(black_box(&list)));
+    let archive = each(&|list| {
+        black_box(raw::overlaps(SCREEN, list)).done().unwrap();
+    });
+    let plain = each(&|list| {
+        black_box(plain::overlaps(SCREEN, list));
+    });
+    row(format!("overlaps, {kind}, per shape"), archive, Beside::Plain(plain))
+}
+
 /// Coordinates on and around the screen in eighths of a unit, so that one in eight lies half way between two units; in no
 /// order, so that nothing of what they answer can be foreseen.
 fn coordinates() -> Vec<f32> {
@@ -327,6 +315,7 @@ fn run() -> Vec<Row> {
         rows.push(long_read(edition));
     }
     rows.extend([least_bin(), snap("unit, a coordinate", Unit::HERE)]);
+    rows.extend([totals("1,500 small shapes", &small(1500)), totals("31 screen-wide shapes", &wide(31))]);
     rows.extend(Unit::OTHER.map(|unit| snap("unit, a coordinate, by the other archive", unit)));
     rows
 }

@@ -1,14 +1,19 @@
 //! A plain binner to compare with: a vector for each tile, and the same corner test. It refuses nothing, and there is
-//! nothing to audit.
+//! nothing to audit. And the totals of a list of shapes, by the same test.
 
 use std::ops::Range;
 
-use flourscoop::{Screen, Shape, Vertex};
+use flourscoop::{Overlaps, Screen, Shape, Vertex, SHAPE_WORDS};
 
 pub struct Plain {
+    grid: Grid,
+    pub lists: Vec<Vec<u32>>,
+}
+
+/// The tiles of a screen.
+struct Grid {
     x: Axis,
     y: Axis,
-    pub lists: Vec<Vec<u32>>,
 }
 
 /// An axis of the screen: a tile's full side, how many tiles there are, how many of them are whole, and where the screen
@@ -63,7 +68,9 @@ fn edge(a: Vertex, b: Vertex, x: i64, y: i64) -> i64 {
     (x - from_x) * (i64::from(b.y) - from_y) - (y - from_y) * (i64::from(b.x) - from_x)
 }
 
-/// Whether all four corners of a tile lie strictly on the outer side of one of the edges.
+/// Whether all four corners of a tile lie strictly on the outer side of one of the edges. In line for the binner and for the
+/// totals, as it would be for either alone.
+#[inline(always)]
 fn apart(v: [Vertex; 3], left: i64, top: i64, wide: i64, high: i64) -> bool {
     let area = edge(v[0], v[1], i64::from(v[2].x), i64::from(v[2].y));
     let corners = [(left, top), (left + wide, top), (left, top + high), (left + wide, top + high)];
@@ -75,27 +82,43 @@ fn apart(v: [Vertex; 3], left: i64, top: i64, wide: i64, high: i64) -> bool {
     })
 }
 
-impl Plain {
-    pub fn open(screen: Screen) -> Plain {
-        let (x, y) = (Axis::of(screen.width, screen.s), Axis::of(screen.height, screen.s));
-        Plain { lists: vec![Vec::new(); (x.tiles * y.tiles) as usize], x, y }
+impl Grid {
+    fn of(screen: Screen) -> Grid {
+        Grid { x: Axis::of(screen.width, screen.s), y: Axis::of(screen.height, screen.s) }
     }
 
-    pub fn bin(&mut self, id: u32, shape: Shape<Vertex>) -> usize {
-        let v = vertices(shape);
+    /// Finds each tile that a shape touches; the answer is how many tiles its box meets.
+    #[inline(always)]
+    fn touched(&self, v: [Vertex; 3], mut found: impl FnMut(usize)) -> u64 {
         let (columns, rows) = (self.x.meeting(v.map(|v| v.x)), self.y.meeting(v.map(|v| v.y)));
-        let mut listed = 0;
+        let boxed = [&columns, &rows].map(|along| (along.end - along.start).max(0) as u64);
         for (columns, wide) in self.x.by_length(columns) {
             for row in rows.clone() {
                 let (top, high) = (row * self.y.side, self.y.length(row));
                 for column in columns.clone() {
                     if !apart(v, column * self.x.side, top, wide, high) {
-                        self.lists[(row * self.x.tiles + column) as usize].push(id);
-                        listed += 1;
+                        found((row * self.x.tiles + column) as usize);
                     }
                 }
             }
         }
+        boxed[0] * boxed[1]
+    }
+}
+
+impl Plain {
+    pub fn open(screen: Screen) -> Plain {
+        let grid = Grid::of(screen);
+        Plain { lists: vec![Vec::new(); (grid.x.tiles * grid.y.tiles) as usize], grid }
+    }
+
+    pub fn bin(&mut self, id: u32, shape: Shape<Vertex>) -> usize {
+        let (v, Plain { grid, lists }) = (vertices(shape), self);
+        let mut listed = 0;
+        grid.touched(v, |tile| {
+            lists[tile].push(id);
+            listed += 1;
+        });
         listed
     }
 
@@ -106,6 +129,37 @@ impl Plain {
     pub fn release(&mut self, tile: u32) {
         self.lists[tile as usize].clear();
     }
+}
+
+/// The totals of a list of shapes. A call, as the archive's is.
+#[inline(never)]
+pub fn overlaps(screen: Screen, list: &[i32]) -> Overlaps {
+    let grid = Grid::of(screen);
+    let (mut shapes, mut out_of_range, mut box_tiles, mut touched_tiles) = (0, 0, 0, 0);
+    let mut largest: Option<(u32, u32)> = None;
+    for (place, words) in (0..).zip(list.chunks_exact(SHAPE_WORDS)) {
+        let [kind, x1, y1, x2, y2, x3, y3] = <[i32; SHAPE_WORDS]>::try_from(words).unwrap();
+        if words[1..].iter().any(|unit| !(-262_144..=262_143).contains(unit)) {
+            out_of_range += 1;
+            continue;
+        }
+        let [a, b, c] = [(x1, y1), (x2, y2), (x3, y3)].map(|(x, y)| Vertex { x, y });
+        let v = match kind {
+            1 => [a, a, a],
+            2 => [a, b, b],
+            _ => [a, b, c],
+        };
+        let mut touched = 0;
+        box_tiles += grid.touched(v, |_| touched += 1);
+        shapes += 1;
+        touched_tiles += u64::from(touched);
+        if largest.is_none_or(|(most, _)| most < touched) {
+            largest = Some((touched, place));
+        }
+    }
+    let (largest, place) = largest.unwrap_or((0, 0));
+    let difference = box_tiles - touched_tiles;
+    Overlaps { shapes, out_of_range, box_tiles, touched_tiles, difference, largest, place }
 }
 
 /// The unit of a coordinate, or the number of its refusal. A call, as the archive's is.
@@ -124,19 +178,38 @@ pub fn unit(v: f32) -> Result<i32, u32> {
 #[cfg(test)]
 mod tests {
     use super::*;
-    use flourscoop::{raw, room};
+    use flourscoop::{list_of, raw, room};
 
-    /// Lines around (960,448), where the last tile ends, are listed as the archive lists them.
+    const SCREEN: Screen = Screen { width: 60, height: 28, s: 4 };
+
+    /// Lines around (960,448), where the last tile ends.
+    fn lines() -> impl Iterator<Item = Shape<Vertex>> {
+        let line = |x, y| Shape::Line(Vertex { x, y }, Vertex { x: x + 8, y: y - 8 });
+        (950..970).flat_map(move |x| (440..460).map(move |y| line(x, y)))
+    }
+
+    /// They are listed as the archive lists them.
     #[test]
     fn a_tile_ends_where_the_screen_ends() {
-        let screen = Screen { width: 60, height: 28, s: 4 };
-        let (mut words, mut plain) = (vec![0; room(screen, 16).unwrap()], Plain::open(screen));
-        raw::open(&mut words, screen, 16).done().unwrap();
-        for (x, y) in (950..970).flat_map(|x| (440..460).map(move |y| (x, y))) {
-            let line = Shape::Line(Vertex { x, y }, Vertex { x: x + 8, y: y - 8 });
+        let (mut words, mut plain) = (vec![0; room(SCREEN, 16).unwrap()], Plain::open(SCREEN));
+        raw::open(&mut words, SCREEN, 16).done().unwrap();
+        for line in lines() {
             let [tiles, _] = raw::bin(&mut words, 1, line).done().unwrap();
             assert_eq!(plain.bin(1, line), tiles as usize, "{line:?}");
         }
         assert!((100..300).contains(&plain.lists[7].len()));
+    }
+
+    /// They, with a point before and a triangle after them, and shapes out of range, are counted as the archive counts them.
+    #[test]
+    fn totals_are_the_archive_s() {
+        let point = |x, y| Shape::Point(Vertex { x, y });
+        let triangle = Shape::Triangle(Vertex { x: -9, y: -9 }, Vertex { x: 2000, y: -9 }, Vertex { x: -9, y: 700 });
+        let shapes = [point(0, 262_144), point(256, 256), point(-1, 0)].into_iter().chain(lines()).chain([triangle; 2]);
+        let list = list_of(shapes);
+        let totals = overlaps(SCREEN, &list);
+        assert_eq!(raw::overlaps(SCREEN, &list).done(), Ok(totals));
+        assert_eq!((totals.out_of_range, totals.largest, totals.place), (1, 8, 403));
+        assert_eq!(raw::overlaps(SCREEN, &[]).done(), Ok(overlaps(SCREEN, &[])));
     }
 }

@@ -24,9 +24,11 @@
 //! # Ok::<(), Refusal>(())
 //! ```
 
+mod overlaps;
 pub mod raw;
 mod refusal;
 
+pub use overlaps::{list_of, overlaps, Overlaps, MOST_SHAPES, SHAPE_WORDS};
 pub use refusal::Refusal;
 
 /// A screen of `width` by `height` pixels with tiles of 2^`s` by 2^`s` pixels, numbered row by row from the top left.
@@ -85,12 +87,12 @@ impl<V: Copy> Shape<V> {
     }
 }
 
-impl<const VALUES: usize> raw::Answer<VALUES> {
+impl<V> raw::Answer<V> {
     /// The values of a call that was done, or why it was refused.
-    pub fn done(self) -> Result<[u32; VALUES], Refusal> {
+    pub fn done(self) -> Result<V, Refusal> {
         match self.number {
             0 => Ok(self.values),
-            number => Err(Refusal::of(number).expect("a call returns one of the numbers 0 to 10")),
+            number => Err(Refusal::of(number).expect("a call returns 0 or the number of a refusal")),
         }
     }
 }

@@ -1,6 +1,6 @@
 //! The calls as the archive has them: a number, and the values that it wrote.
 
-use crate::{Pixel, Screen, Shape, Vertex};
+use crate::{Overlaps, Pixel, Screen, Shape, Vertex};
 
 // The declarations of include/flourscoop.h. Nothing checks them against the source of the archive but the tests.
 #[rustfmt::skip]
@@ -42,20 +42,25 @@ extern "C" {
         x1: i32, y1: i32, x2: i32, y2: i32, touches: *mut u32) -> u32;
     fn flourscoop_corner_triangle(width: u32, height: u32, s: u32, tile: u32,
         x1: i32, y1: i32, x2: i32, y2: i32, x3: i32, y3: i32, touches: *mut u32) -> u32;
+
+    fn flourscoop_overlaps(list: *const i32, words: usize, width: u32, height: u32, s: u32,
+        shapes: *mut u32, out_of_range: *mut u32, box_tiles: *mut u64, touched_tiles: *mut u64, difference: *mut u64,
+        largest: *mut u32, place: *mut u32) -> u32;
 }
 
 /// The number that a call returned, and what it wrote through its pointers: zeros where it refused.
 #[derive(Clone, Copy, PartialEq, Eq, Debug)]
-pub struct Answer<const VALUES: usize> {
+pub struct Answer<V> {
     pub number: u32,
-    pub values: [u32; VALUES],
+    pub values: V,
 }
 
 /// What stands behind a pointer before the call; a value that is still this was not written.
 const UNWRITTEN: u32 = 0xAAAA_AAAA;
+const UNWRITTEN_TOTAL: u64 = 0xAAAA_AAAA_AAAA_AAAA;
 
 /// The answer of a call that is handed pointers to so many values.
-fn answer<const VALUES: usize>(call: impl FnOnce(&mut [u32; VALUES]) -> u32) -> Answer<VALUES> {
+fn answer<const VALUES: usize>(call: impl FnOnce(&mut [u32; VALUES]) -> u32) -> Answer<[u32; VALUES]> {
     let mut values = [UNWRITTEN; VALUES];
     let number = call(&mut values);
     Answer { number, values }
@@ -76,24 +81,24 @@ macro_rules! call {
 }
 
 /// Opens a pool of edition one. Numbers: 0, 1, 2, 3.
-pub fn open(pool: &mut [u32], screen: Screen, blocks: u32) -> Answer<0> {
+pub fn open(pool: &mut [u32], screen: Screen, blocks: u32) -> Answer<[u32; 0]> {
     let Screen { width, height, s } = screen;
     answer(|_| unsafe { flourscoop_open(pool.as_mut_ptr(), pool.len(), width, height, s, blocks) })
 }
 
 /// Opens a pool of edition two. Numbers: 0, 1, 2, 3.
-pub fn open_two(pool: &mut [u32], screen: Screen, blocks: u32, block_words: u32) -> Answer<0> {
+pub fn open_two(pool: &mut [u32], screen: Screen, blocks: u32, block_words: u32) -> Answer<[u32; 0]> {
     let Screen { width, height, s } = screen;
     answer(|_| unsafe { flourscoop_open_two(pool.as_mut_ptr(), pool.len(), width, height, s, blocks, block_words) })
 }
 
 /// Whether the pool is sound. Numbers: 0, 4.
-pub fn audit(pool: &[u32]) -> Answer<0> {
+pub fn audit(pool: &[u32]) -> Answer<[u32; 0]> {
     answer(|_| unsafe { flourscoop_audit(pool.as_ptr(), pool.len()) })
 }
 
 /// Bins a shape in units. Values: tiles listed, blocks taken. Numbers: 0, 4, 5, 7, 8.
-pub fn bin(pool: &mut [u32], id: u32, shape: Shape<Vertex>) -> Answer<2> {
+pub fn bin(pool: &mut [u32], id: u32, shape: Shape<Vertex>) -> Answer<[u32; 2]> {
     answer(|[tiles, blocks]| {
         call!(flourscoop_bin_point flourscoop_bin_line flourscoop_bin_triangle:
             (pool.as_mut_ptr(), pool.len(), id) shape (tiles, blocks))
@@ -101,7 +106,7 @@ pub fn bin(pool: &mut [u32], id: u32, shape: Shape<Vertex>) -> Answer<2> {
 }
 
 /// Bins a shape in pixels. Values: tiles listed, blocks taken. Numbers: 0, 4, 5, 6, 7, 8.
-pub fn bin_pixels(pool: &mut [u32], id: u32, shape: Shape<Pixel>) -> Answer<2> {
+pub fn bin_pixels(pool: &mut [u32], id: u32, shape: Shape<Pixel>) -> Answer<[u32; 2]> {
     answer(|[tiles, blocks]| {
         call!(flourscoop_bin_pixels_point flourscoop_bin_pixels_line flourscoop_bin_pixels_triangle:
             (pool.as_mut_ptr(), pool.len(), id) shape (tiles, blocks))
@@ -109,27 +114,27 @@ pub fn bin_pixels(pool: &mut [u32], id: u32, shape: Shape<Pixel>) -> Answer<2> {
 }
 
 /// Reads the id at a place of a tile's list. Value: the id. Numbers: 0, 4, 9, 10.
-pub fn read(pool: &[u32], tile: u32, place: u32) -> Answer<1> {
+pub fn read(pool: &[u32], tile: u32, place: u32) -> Answer<[u32; 1]> {
     answer(|[id]| unsafe { flourscoop_read(pool.as_ptr(), pool.len(), tile, place, id) })
 }
 
 /// The most entries that a tile's list had since the opening. Value: that number. Numbers: 0, 4, 9.
-pub fn high_water(pool: &[u32], tile: u32) -> Answer<1> {
+pub fn high_water(pool: &[u32], tile: u32) -> Answer<[u32; 1]> {
     answer(|[entries]| unsafe { flourscoop_high_water(pool.as_ptr(), pool.len(), tile, entries) })
 }
 
 /// Empties a tile's list. Value: the blocks given back. Numbers: 0, 4, 9.
-pub fn release(pool: &mut [u32], tile: u32) -> Answer<1> {
+pub fn release(pool: &mut [u32], tile: u32) -> Answer<[u32; 1]> {
     answer(|[blocks]| unsafe { flourscoop_release(pool.as_mut_ptr(), pool.len(), tile, blocks) })
 }
 
 /// The unit of a coordinate in pixels. Value: the unit, as the word that holds the i32. Numbers: 0, 6, 7.
-pub fn unit(v: f32) -> Answer<1> {
+pub fn unit(v: f32) -> Answer<[u32; 1]> {
     answer(|[unit]| unsafe { flourscoop_unit(v, std::ptr::from_mut(unit).cast()) })
 }
 
 /// Whether a tile meets a shape's bounding box. Value: 1 for yes, 0 for no. Numbers: 0, 1, 7, 9.
-pub fn box_touches(screen: Screen, tile: u32, shape: Shape<Vertex>) -> Answer<1> {
+pub fn box_touches(screen: Screen, tile: u32, shape: Shape<Vertex>) -> Answer<[u32; 1]> {
     let Screen { width, height, s } = screen;
     answer(|[touches]| {
         call!(flourscoop_box_point flourscoop_box_line flourscoop_box_triangle:
@@ -138,10 +143,32 @@ pub fn box_touches(screen: Screen, tile: u32, shape: Shape<Vertex>) -> Answer<1>
 }
 
 /// Whether a shape touches a tile. Value: 1 for yes, 0 for no. Numbers: 0, 1, 7, 9.
-pub fn corner_touches(screen: Screen, tile: u32, shape: Shape<Vertex>) -> Answer<1> {
+pub fn corner_touches(screen: Screen, tile: u32, shape: Shape<Vertex>) -> Answer<[u32; 1]> {
     let Screen { width, height, s } = screen;
     answer(|[touches]| {
         call!(flourscoop_corner_point flourscoop_corner_line flourscoop_corner_triangle:
             (width, height, s, tile) shape (touches))
     })
+}
+
+/// The totals of a list of shapes. Numbers: 0, 1, 15.
+pub fn overlaps(screen: Screen, list: &[i32]) -> Answer<Overlaps> {
+    let Screen { width, height, s } = screen;
+    let mut values = Overlaps {
+        shapes: UNWRITTEN,
+        out_of_range: UNWRITTEN,
+        box_tiles: UNWRITTEN_TOTAL,
+        touched_tiles: UNWRITTEN_TOTAL,
+        difference: UNWRITTEN_TOTAL,
+        largest: UNWRITTEN,
+        place: UNWRITTEN,
+    };
+    let Overlaps { shapes, out_of_range, box_tiles, touched_tiles, difference, largest, place } = &mut values;
+    // the pointers are those of references that live through the call
+    #[rustfmt::skip]
+    let number = unsafe {
+        flourscoop_overlaps(list.as_ptr(), list.len(), width, height, s,
+            shapes, out_of_range, box_tiles, touched_tiles, difference, largest, place)
+    };
+    Answer { number, values }
 }

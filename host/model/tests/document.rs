@@ -1,8 +1,10 @@
-//! The model gives what document 01 and requests P2, P8 and P12 list.
+//! The model gives what document 01 and requests P1, P2, P8 and P12 list.
 
 use model::layout::{Layout, LAYOUTS};
+use model::listed::{Listed, LISTED};
 use model::marked::{Cut, Marked, PoolCase, CUT, MARKED, POOL_CASES, SCREEN};
 use model::number;
+use model::overlaps::{faults, overlaps, Fault as ListFault};
 use model::pool::{Fault, State, POISON};
 use model::screen::Screen;
 use model::touch::{box_meets, touched};
@@ -29,6 +31,26 @@ fn a_tile_ends_where_the_screen_ends() {
 #[test]
 fn the_box_of_a_negative_point_gains_no_tile() {
     assert!(!box_meets(&[[-1, 10]], SCREEN.rectangle(0)));
+}
+
+#[test]
+fn lists_of_shapes() {
+    for Listed { name, list, totals } in LISTED {
+        assert_eq!(overlaps(SCREEN, list), totals, "{name}");
+        assert_eq!(overlaps(Screen { s: 7, ..SCREEN }, list), Err(number::SCREEN), "{name}");
+    }
+}
+
+#[test]
+fn a_list_has_each_of_its_faults() {
+    let of = |list: &[i32]| faults(list).collect::<Vec<_>>();
+    assert_eq!(of(&[1, 5, 5, 1, 2, 3, 4]), [3, 4, 5, 6].map(|column| ListFault::Unused { kind: 1, column }));
+    assert_eq!(of(&[2, 5, 5, 1, 2, 3, 4]), [5, 6].map(|column| ListFault::Unused { kind: 2, column }));
+    assert_eq!(of(&[3, 5, 5, 1, 2, 3, 4]), []);
+    assert_eq!(of(&[0, 0, 0, 0, 0, 0, 7, 1, 0]), [ListFault::Part(2), ListFault::Kind(0)]);
+    let points = [1, 0, 0, 0, 0, 0, 0].repeat((1 << 20) + 1);
+    assert_eq!(of(&points), [ListFault::Long]);
+    assert_eq!(of(&points[7..]), []);
 }
 
 #[test]

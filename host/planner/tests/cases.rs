@@ -1,56 +1,17 @@
-//! The planner on the lists of the folder cases, and on lines that are no calls. Beside each list `NAME.calls` stands what it
-//! prints, `NAME.out`, or, where it runs nothing, what it says on standard error, `NAME.err`.
+//! How many blocks the planner tells of the lists of the folder cases, and what it says of lines that are no calls. Beside a
+//! list `NAME.calls` stands what it prints, `NAME.out`, or, where it runs nothing, what it says on standard error, `NAME.err`.
+
+mod common;
 
 use std::ffi::{OsStr, OsString};
 use std::fs;
-use std::io::Write;
 use std::os::unix::ffi::OsStringExt;
-use std::path::PathBuf;
-use std::process::{Child, Command, Stdio};
+use std::process::Stdio;
 
-/// How a run ended, what it printed, and what it said on standard error.
-#[derive(PartialEq, Debug)]
-struct Ended {
-    status: Option<i32>,
-    output: String,
-    said: String,
-}
-
-fn start(argument: Option<&OsStr>, output: Stdio) -> Child {
-    let mut planner = Command::new(env!("CARGO_BIN_EXE_planner"));
-    planner.args(argument).stdin(Stdio::piped()).stdout(output).stderr(Stdio::piped()).spawn().unwrap()
-}
-
-/// Hands the planner its input, and waits for its end.
-fn end(mut running: Child, input: &[u8]) -> Ended {
-    // it may end before it has read all
-    let _ = running.stdin.take().unwrap().write_all(input);
-    let ended = running.wait_with_output().unwrap();
-    let [output, said] = [ended.stdout, ended.stderr].map(|bytes| String::from_utf8(bytes).unwrap());
-    Ended { status: ended.status.code(), output, said }
-}
+use common::{end, not_run, start, stored, Ended};
 
 fn plan(list: impl AsRef<[u8]>) -> Ended {
-    end(start(None, Stdio::piped()), list.as_ref())
-}
-
-/// A run that came to nothing, for this reason.
-fn not_run(why: &str) -> Ended {
-    Ended { status: Some(2), output: String::new(), said: format!("planner: {why}\n") }
-}
-
-/// The stored lists, each with its name and the file beside it that has this ending.
-fn stored(ending: &str) -> Vec<(String, String, String)> {
-    let folder = PathBuf::from(env!("CARGO_MANIFEST_DIR")).join("cases");
-    let mut lists: Vec<PathBuf> = fs::read_dir(folder).unwrap().map(|entry| entry.unwrap().path()).collect();
-    lists.retain(|path| path.extension() == Some(OsStr::new("calls")) && path.with_extension(ending).exists());
-    lists.sort();
-    let read = |path: PathBuf| {
-        let name = path.file_stem().unwrap().to_string_lossy().into_owned();
-        let beside = fs::read_to_string(path.with_extension(ending)).unwrap();
-        (name, fs::read_to_string(path).unwrap(), beside)
-    };
-    lists.into_iter().map(read).collect()
+    end(start(&[], Stdio::piped()), list.as_ref())
 }
 
 /// The number after these words of what was printed.
@@ -220,7 +181,7 @@ fn what_is_no_text_is_told() {
 
 #[test]
 fn help_is_told_and_other_words_are_not_taken() {
-    let with = |word: &OsStr| end(start(Some(word), Stdio::piped()), b"");
+    let with = |word: &OsStr| end(start(&[word], Stdio::piped()), b"");
     let help = with(OsStr::new("--help"));
     assert_eq!((help.status, help.said.as_str()), (Some(0), ""));
     for call in [
@@ -231,6 +192,7 @@ fn help_is_told_and_other_words_are_not_taken() {
         "triangle ID",
         "pixels point ID",
         "release TILE",
+        "planner overlaps <LIST",
     ] {
         assert!(help.output.contains(call), "{call}");
     }
@@ -242,8 +204,8 @@ fn help_is_told_and_other_words_are_not_taken() {
 #[test]
 fn output_that_cannot_be_written_is_told() {
     let full = fs::OpenOptions::new().write(true).open("/dev/full").unwrap();
-    let on_full_device = start(None, full.into());
-    let mut on_closed_pipe = start(None, Stdio::piped());
+    let on_full_device = start(&[], full.into());
+    let mut on_closed_pipe = start(&[], Stdio::piped());
     drop(on_closed_pipe.stdout.take());
     for running in [on_full_device, on_closed_pipe] {
         let ended = end(running, b"open 64 32 4 2\n");

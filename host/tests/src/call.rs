@@ -176,14 +176,14 @@ pub fn pixels_of(shape: &[Pixel]) -> Shape<flourscoop::Pixel> {
 }
 
 /// Opens a pool on the archive, by the call of its edition.
-pub fn open(words: &mut [u32], layout: Layout, screen: Screen, blocks: u32) -> Answer<0> {
+pub fn open(words: &mut [u32], layout: Layout, screen: Screen, blocks: u32) -> Answer<[u32; 0]> {
     match layout {
         Layout::One => raw::open(words, screen_of(screen), blocks),
         Layout::Two { block_words } => raw::open_two(words, screen_of(screen), blocks, block_words),
     }
 }
 
-fn outcome<const VALUES: usize>(answer: Answer<VALUES>) -> Outcome {
+fn outcome<const VALUES: usize>(answer: Answer<[u32; VALUES]>) -> Outcome {
     let mut outcome = [answer.number, 0, 0];
     outcome[1..=VALUES].copy_from_slice(&answer.values);
     outcome

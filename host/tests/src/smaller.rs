@@ -6,7 +6,7 @@ use model::screen::Screen;
 use model::Vertex;
 
 /// The numbers that lie a step from `number` towards 0.
-fn nearer_zero(number: i32) -> Vec<i32> {
+pub fn nearer_zero(number: i32) -> Vec<i32> {
     let mut nearer = vec![0, number / 2, number - number.signum()];
     nearer.retain(|&other| other != number);
     nearer.dedup();

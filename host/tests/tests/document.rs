@@ -1,11 +1,16 @@
-//! What document 01 and requests P2, P8 and P12 list, by the wrapper.
+//! What document 01 and requests P1, P2, P8 and P12 list, by the wrapper.
 
-use flourscoop::{box_touches, corner_touches, room, room_two, unit, Binned, Pixel, Pool, Refusal, Shape, Vertex};
+use flourscoop::{
+    box_touches, corner_touches, list_of, overlaps, room, room_two, unit, Binned, Overlaps, Pixel, Pool, Refusal,
+    Shape, Vertex,
+};
 use model::layout::Layout;
+use model::listed::{Listed, LISTED};
 use model::marked::{Cut, Marked, PoolCase, CUT, MARKED, POOL_CASES, SCREEN};
 use model::screen::Screen;
 use model::unit::TABLE;
 use tests::call::{screen_of, shape_of};
+use tests::list::overlaps_of;
 
 const fn point(x: i32, y: i32) -> Shape<Vertex> {
     Shape::Point(Vertex { x, y })
@@ -36,6 +41,39 @@ fn marked_cases() {
 fn a_tile_ends_where_the_screen_ends() {
     for Cut { screen, cases } in CUT {
         cases.iter().for_each(|case| check(screen, case));
+    }
+}
+
+/// Counts the cases on a screen as a list.
+fn check_list(screen: Screen, cases: &[Marked]) {
+    let list = list_of(cases.iter().map(|case| shape_of(case.shape)));
+    let sum = |tiles: fn(&Marked) -> usize| cases.iter().map(|case| tiles(case) as u64).sum::<u64>();
+    let (box_tiles, touched_tiles) = (sum(|case| case.boxed.len()), sum(|case| case.tiles.len()));
+    let largest = cases.iter().map(|case| case.tiles.len()).max().unwrap();
+    let expected = Overlaps {
+        shapes: cases.len() as u32,
+        out_of_range: 0,
+        box_tiles,
+        touched_tiles,
+        difference: box_tiles - touched_tiles,
+        largest: largest as u32,
+        place: cases.iter().position(|case| case.tiles.len() == largest).unwrap() as u32,
+    };
+    assert_eq!(overlaps(screen_of(screen), &list), Ok(expected), "{screen:?}");
+}
+
+#[test]
+fn the_cases_as_lists_of_shapes() {
+    check_list(SCREEN, &MARKED);
+    CUT.iter().for_each(|Cut { screen, cases }| check_list(*screen, cases));
+}
+
+#[test]
+fn lists_of_shapes() {
+    let screen = screen_of(SCREEN);
+    for Listed { name, list, totals } in LISTED {
+        assert_eq!(overlaps(screen, list).map_err(Refusal::number), totals.map(overlaps_of), "{name}");
+        assert_eq!(overlaps(flourscoop::Screen { s: 7, ..screen }, list), Err(Refusal::Screen), "{name}");
     }
 }
 

@@ -1,11 +1,13 @@
-//! The C header says what the wrapper and the model say: numbers, texts, version and the words of its examples.
+//! The C header says what the wrapper and the model say: numbers, texts, limits, version, declarations and examples.
 
-use flourscoop::Refusal;
+use flourscoop::{Refusal, Shape, Vertex};
 use model::layout::Layout;
 use model::marked::SCREEN;
+use model::overlaps::{overlaps, Totals, MOST_SHAPES, WORDS_OF_SHAPE};
 use model::pool::{State, POISON};
 
 const HEADER: &str = include_str!("../../include/flourscoop.h");
+const WRAPPER: &str = include_str!("../../flourscoop/src/raw.rs");
 
 /// What follows `#define NAME ` in the header.
 fn defined(name: &str) -> &'static str {
@@ -25,8 +27,8 @@ fn texts() -> Vec<(&'static str, &'static str)> {
 #[test]
 fn numbers_and_texts_are_the_wrapper_s() {
     let texts = texts();
-    assert_eq!(texts.len(), 11);
-    for (number, (name, text)) in (0..).zip(texts) {
+    assert_eq!(texts.len(), 12);
+    for (number, (name, text)) in (0..=10).chain([15]).zip(texts) {
         assert_eq!(defined(name), format!("{number}u"), "{name}");
         match number {
             0 => assert_eq!((name, text), ("FLOURSCOOP_DONE", "done")),
@@ -37,7 +39,22 @@ fn numbers_and_texts_are_the_wrapper_s() {
             }
         }
     }
-    assert_eq!([0, 11, u32::MAX].map(Refusal::of), [None; 3]);
+    assert_eq!([0, 11, 14, 16, u32::MAX].map(Refusal::of), [None; 5]);
+}
+
+#[test]
+fn the_limits_of_a_list_are_the_wrapper_s_and_the_model_s() {
+    assert_eq!((flourscoop::SHAPE_WORDS, flourscoop::MOST_SHAPES), (WORDS_OF_SHAPE, MOST_SHAPES));
+    assert_eq!(defined("FLOURSCOOP_SHAPE_WORDS"), format!("{WORDS_OF_SHAPE}u"));
+    assert_eq!(defined("FLOURSCOOP_MOST_SHAPES"), format!("{MOST_SHAPES}u"));
+    let origin = Vertex { x: 0, y: 0 };
+    for (name, shape) in [
+        ("POINT", Shape::Point(origin)),
+        ("LINE", Shape::Line(origin, origin)),
+        ("TRIANGLE", Shape::Triangle(origin, origin, origin)),
+    ] {
+        assert_eq!(defined(&format!("FLOURSCOOP_{name}")), shape.words()[0].to_string());
+    }
 }
 
 #[test]
@@ -45,6 +62,46 @@ fn the_version_is_the_crates() {
     assert_eq!(defined("FLOURSCOOP_VERSION"), format!("{:?}", env!("CARGO_PKG_VERSION")));
     let parts = ["MAJOR", "MINOR", "PATCH"].map(|part| defined(&format!("FLOURSCOOP_VERSION_{part}")));
     assert_eq!(parts.join("."), env!("CARGO_PKG_VERSION"));
+}
+
+/// The declarations of a text, in its order: all that stands from one of these starts up to its first semicolon.
+fn declarations(text: &'static str, start: &str) -> Vec<&'static str> {
+    let from = |(at, _)| text[at + start.len()..].split_once(';').unwrap().0;
+    text.match_indices(start).map(from).collect()
+}
+
+/// The types of the header, and of the wrapper.
+const TYPES: [(&str, &str); 5] =
+    [("uint32_t", "u32"), ("int32_t", "i32"), ("uint64_t", "u64"), ("size_t", "usize"), ("float", "f32")];
+
+/// A parameter of the header as the wrapper has it.
+fn in_rust(parameter: &str) -> String {
+    let (c_type, name) = parameter.trim().rsplit_once([' ', '*']).unwrap();
+    let (c_type, pointer) = match (c_type.trim().strip_prefix("const "), parameter.contains('*')) {
+        (Some(c_type), _) => (c_type, "*const "),
+        (None, true) => (c_type.trim(), "*mut "),
+        (None, false) => (c_type, ""),
+    };
+    let (_, rust_type) = TYPES.into_iter().find(|(known, _)| *known == c_type).unwrap();
+    format!("{name}: {pointer}{rust_type}")
+}
+
+/// A declaration of the header as the wrapper has it.
+fn declared_in_rust(declaration: &str) -> String {
+    let (name, rest) = declaration.split_once('(').unwrap();
+    let parameters: Vec<String> = rest.trim_end_matches(')').split(',').map(in_rust).collect();
+    format!("{name}({}) -> u32", parameters.join(", "))
+}
+
+#[test]
+fn the_declarations_are_the_wrapper_s() {
+    let one_line = |declaration: &str| declaration.split_whitespace().collect::<Vec<_>>().join(" ");
+    let mut header: Vec<String> = declarations(HEADER, "\nuint32_t ").into_iter().map(declared_in_rust).collect();
+    let mut wrapper: Vec<String> = declarations(WRAPPER, "    fn ").into_iter().map(one_line).collect();
+    header.sort();
+    wrapper.sort();
+    assert_eq!(header.len(), 20);
+    assert_eq!(header, wrapper);
 }
 
 /// The words of the header's examples: each line has its first and last word, and what they are.
@@ -82,4 +139,29 @@ fn the_examples_are_the_model_s() {
         pool.words()
     };
     assert_eq!(examples(), [Layout::One, Layout::Two { block_words: 64 }].map(binned));
+}
+
+/// The lines of the header's example of a list that begin with this word, without it.
+fn list_example(word: &str) -> impl Iterator<Item = &'static str> {
+    let start = format!(" *     {word} ");
+    HEADER.lines().filter_map(move |line| line.strip_prefix(&start))
+}
+
+#[test]
+fn the_totals_of_the_example_are_the_model_s() {
+    let mut list: Vec<i32> = Vec::new();
+    for (place, line) in list_example("place").enumerate() {
+        let (said, rest) = line.split_once("    ").unwrap();
+        assert_eq!(said.parse(), Ok(place), "{line}");
+        let (words, _) = rest.split_once("  ").unwrap();
+        list.extend(words.split(", ").map(|word| word.parse::<i32>().unwrap()));
+    }
+    let Totals { shapes, out_of_range, box_tiles, touched_tiles, difference, largest, place } =
+        overlaps(SCREEN, &list).unwrap();
+    let totals = format!(
+        "shapes {shapes}, out of range {out_of_range}, tiles by box {box_tiles}, by touching {touched_tiles}, \
+         difference {difference}, largest {largest}, its place {place}"
+    );
+    assert_eq!(list_example("totals").map(str::trim).collect::<Vec<_>>(), [totals]);
+    assert_eq!((shapes, out_of_range), (4, 1));
 }

@@ -1,0 +1,33 @@
+//! The shapes that are binned and counted.
+
+use flourscoop::{Shape, Vertex};
+
+use crate::TILES;
+
+pub fn triangle([x1, y1]: [i32; 2], [x2, y2]: [i32; 2], [x3, y3]: [i32; 2]) -> Shape<Vertex> {
+    Shape::Triangle(Vertex { x: x1, y: y1 }, Vertex { x: x2, y: y2 }, Vertex { x: x3, y: y3 })
+}
+
+/// Triangles that touch one tile each, over the whole screen.
+pub fn small(count: u32) -> Vec<Shape<Vertex>> {
+    let at = |k: u32| {
+        let tile = k * 7 % TILES;
+        let (left, top) = ((tile % 50 * 256) as i32, (tile / 50 * 256) as i32);
+        triangle([left + 20, top + 30], [left + 200, top + 60], [left + 90, top + 210])
+    };
+    (0..count).map(at).collect()
+}
+
+/// Triangles that reach from side to side of the screen, in both windings.
+pub fn wide(count: u32) -> Vec<Shape<Vertex>> {
+    let at = |k: u32| {
+        let k = k as i32 * 11;
+        let (a, b, c) = ([k, 0], [12_800, k], [12_000 - k, 7_680]);
+        if k % 2 == 0 {
+            triangle(a, b, c)
+        } else {
+            triangle(a, c, b)
+        }
+    };
+    (0..count).map(at).collect()
+}

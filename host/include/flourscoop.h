@@ -23,7 +23,7 @@
  *
  * STACK, in bytes, as measured, on x86-64 in an emulator; of bin's and of overlaps', 16,384 list the touched tiles
  *               bin      overlaps   audit   read    high_water   release   corner   box   open, open_two   unit
- *     x86-64    17,328   -          2,336   2,368   2,368        2,416     352      192   144              16
+ *     x86-64    17,440   17,248     2,336   2,368   2,368        2,416     352      192   144              16
  *     Arm       17,344   17,216     2,288   2,320   2,304        2,304     240      160   128              32
  *
  * SCREEN AND UNITS

@@ -318,7 +318,7 @@ pub fn overlaps(list: &[i32], screen: Screen) -> Counted
     if !screen::allowed(screen) {
         return not_counted(1);
     }
-    let checked = shapes::check(list, overlaps::WORDS);
+    let checked = shapes::check(list, shapes::WORDS);
     let Checked::Right(count) = checked else {
         return not_counted(15);
     };

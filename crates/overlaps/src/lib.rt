@@ -26,9 +26,6 @@ pub struct Totals {
     pub place: u32,
 }
 
-// The words of a shape in the list.
-pub const WORDS: usize = 7;
-
 // The totals of no shape.
 pub fn no_totals() -> Totals
     ensures { λ r. ⌜ r ≡ noTotals ⌝ }
@@ -130,7 +127,7 @@ fn add_up(screen: Screen, list: &[i32], count: usize, touched: &mut [u32]) -> To
         let shape = shapes::shape_at(list, at);
         totals = with(totals, screen, shape, narrow(place), touched);
         place += 1;
-        at += WORDS;
+        at += shapes::WORDS;
     }
     totals
 }

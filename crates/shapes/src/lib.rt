@@ -17,8 +17,8 @@ pub enum Checked {
 
 const MOST_SHAPES: usize = 1048576;
 
-// The words that say a shape.
-const WORDS: usize = 7;
+// The words that say a shape: its kind and six coordinates.
+pub const WORDS: usize = 7;
 
 // Whether the words from a place on and before another are 0.
 fn all_zero(list: &[i32], from: usize, end: usize) -> bool
@@ -52,7 +52,7 @@ fn right_at(list: &[i32], at: usize) -> bool
     all_zero(list, at + 1 + used, at + WORDS)
 }
 
-// The shape whose words, which are right, start at a place.
+// The shape whose words start at a place: for a kind up to 1 a point, for 2 a line, for another a triangle.
 pub fn shape_at(list: &[i32], at: usize) -> Shape
     requires { ⌜ at + 7 ≤ length (now list) ⌝ }
     ensures { λ r. ⌜ r ≡ shapeFrom (wordsFrom (now (list .entry)) at) ⌝ }

@@ -7,19 +7,17 @@ use lib.ListN.{getD}
 use lib.IntN.{ℤ, pos}
 use lib.Signed.{leZ}
 use mir.Syntax.{w32}
+use Rattle.numbers.specs.Is.{kept}
 use Rattle.numbers.proofs.Is.{kept-is}
 use Rattle.shape.specs.declared.Vertex.{Vertex}
 use Rattle.shape.specs.declared.Shape.the-variants.{Point, Line, Triangle}
-use Rattle.shapes.specs.Shapes.{wordsFrom}
+use Rattle.shapes.specs.Shapes.{wordsFrom, vertexFrom}
 use Rattle.shapes.proofs.ByKind.{is-point, is-line, is-triangle}
 use Rattle.shapes.proofs.shape_at.Statement.{statement}
 use Rattle.shapes.proofs.shape_at.Tie as tie
 
 abbrev vertex : (x y : ℤ) → Vertex
 vertex x y = record { x = x; y = y }
-
-zero-added : (at : ℕ) → at ≡ at + 0
-zero-added at = omega arith
 
 mul-kind : tie.Need-mul-kind
 mul-kind c = search needs
@@ -81,41 +79,43 @@ mul-y3 c = search needs
 shared-slice-copy-out-y3 : tie.Need-shared-slice-copy-out-y3
 shared-slice-copy-out-y3 c = search needs
 
+-- ---- after all words are read
+
+abbrev words : tie.After-y3 → (ℕ → ℤ)
+words c = let s = c .before .before .before .before .before .before .before in wordsFrom (s .args .list .now) (s .args .at)
+
+kind : (c : tie.After-y3) → kept w32 (getD (c .before .before .before .before .before .before .before .args .list .now) (c .before .before .before .before .before .before .before .args .at) (pos 0)) ≡ words c 0
+kind c =
+    let s = c .before .before .before .before .before .before .before in
+    let e : s .args .at ≡ s .args .at + 0 = omega arith in
+    kept-is w32 _ (c .before .before .before .before .before .before .kind .given) ∙ ap (λ (k : ℕ). getD (s .args .list .now) k (pos 0)) e
+
+first : (c : tie.After-y3) → vertex (kept w32 (words c 1)) (kept w32 (words c 2)) ≡ vertexFrom (words c) 1 2
+first c = λ i. vertex (kept-is w32 (words c 1) (c .before .before .before .before .before .x1 .given) i) (kept-is w32 (words c 2) (c .before .before .before .before .y1 .given) i)
+
+second : (c : tie.After-y3) → vertex (kept w32 (words c 3)) (kept w32 (words c 4)) ≡ vertexFrom (words c) 3 4
+second c = λ i. vertex (kept-is w32 (words c 3) (c .before .before .before .x2 .given) i) (kept-is w32 (words c 4) (c .before .before .y2 .given) i)
+
+third : (c : tie.After-y3) → vertex (kept w32 (words c 5)) (kept w32 (words c 6)) ≡ vertexFrom (words c) 5 6
+third c = λ i. vertex (kept-is w32 (words c 5) (c .before .x3 .given) i) (kept-is w32 (words c 6) (c .y3 .given) i)
+
+-- a test of the kind that is read is that of the word
+tested : (c : tie.After-y3) (n : ℕ) → leZ (words c 0) (pos n)
+    ≡ leZ (kept w32 (getD (c .before .before .before .before .before .before .before .args .list .now) (c .before .before .before .before .before .before .before .args .at) (pos 0))) (pos n)
+tested c n = sym (ap (λ (k : ℤ). leZ k (pos n)) (kind c))
+
 returns : tie.Need-returns
-returns c =
-    let ws = c .before .before .before .before .before .before .before .before .args .list .now in
-    let at = c .before .before .before .before .before .before .before .before .args .at in
-    let w = wordsFrom ws at in
-    let kind = kept-is w32 (getD ws at (pos 0)) (c .before .before .before .before .before .before .before .kind .given) ∙ ap (λ (k : ℕ). getD ws k (pos 0)) (zero-added at) in
-    let x1 = kept-is w32 (w 1) (c .before .before .before .before .before .before .x1 .given) in
-    let y1 = kept-is w32 (w 2) (c .before .before .before .before .before .y1 .given) in
-    (λ i. Point (vertex (x1 i) (y1 i))) ∙ sym (is-point w (sym (ap (λ (k : ℤ). leZ k (pos 1)) kind) ∙ c .if1 .taken))
+returns c = let r = c .before in ap Point (first r) ∙ sym (is-point (words r) (tested r 1 ∙ c .if1 .taken))
 
 returns-2 : tie.Need-returns-2
 returns-2 c =
-    let ws = c .before .before .before .before .before .before .before .before .before .args .list .now in
-    let at = c .before .before .before .before .before .before .before .before .before .args .at in
-    let w = wordsFrom ws at in
-    let kind = kept-is w32 (getD ws at (pos 0)) (c .before .before .before .before .before .before .before .before .kind .given) ∙ ap (λ (k : ℕ). getD ws k (pos 0)) (zero-added at) in
-    let x1 = kept-is w32 (w 1) (c .before .before .before .before .before .before .before .x1 .given) in
-    let y1 = kept-is w32 (w 2) (c .before .before .before .before .before .before .y1 .given) in
-    let x2 = kept-is w32 (w 3) (c .before .before .before .before .before .x2 .given) in
-    let y2 = kept-is w32 (w 4) (c .before .before .before .before .y2 .given) in
-    (λ i. Line (vertex (x1 i) (y1 i)) (vertex (x2 i) (y2 i))) ∙ sym (is-line w (sym (ap (λ (k : ℤ). leZ k (pos 1)) kind) ∙ c .before .if1 .left) (sym (ap (λ (k : ℤ). leZ k (pos 2)) kind) ∙ c .if2 .taken))
+    let r = c .before .before in
+    (λ i. Line (first r i) (second r i)) ∙ sym (is-line (words r) (tested r 1 ∙ c .before .if1 .left) (tested r 2 ∙ c .if2 .taken))
 
 returns-3 : tie.Need-returns-3
 returns-3 c =
-    let ws = c .before .before .before .before .before .before .before .before .before .args .list .now in
-    let at = c .before .before .before .before .before .before .before .before .before .args .at in
-    let w = wordsFrom ws at in
-    let kind = kept-is w32 (getD ws at (pos 0)) (c .before .before .before .before .before .before .before .before .kind .given) ∙ ap (λ (k : ℕ). getD ws k (pos 0)) (zero-added at) in
-    let x1 = kept-is w32 (w 1) (c .before .before .before .before .before .before .before .x1 .given) in
-    let y1 = kept-is w32 (w 2) (c .before .before .before .before .before .before .y1 .given) in
-    let x2 = kept-is w32 (w 3) (c .before .before .before .before .before .x2 .given) in
-    let y2 = kept-is w32 (w 4) (c .before .before .before .before .y2 .given) in
-    let x3 = kept-is w32 (w 5) (c .before .before .before .x3 .given) in
-    let y3 = kept-is w32 (w 6) (c .before .before .y3 .given) in
-    (λ i. Triangle (vertex (x1 i) (y1 i)) (vertex (x2 i) (y2 i)) (vertex (x3 i) (y3 i))) ∙ sym (is-triangle w (sym (ap (λ (k : ℤ). leZ k (pos 1)) kind) ∙ c .before .if1 .left) (sym (ap (λ (k : ℤ). leZ k (pos 2)) kind) ∙ c .if2 .left))
+    let r = c .before .before in
+    (λ i. Triangle (first r i) (second r i) (third r i)) ∙ sym (is-triangle (words r) (tested r 1 ∙ c .before .if1 .left) (tested r 2 ∙ c .if2 .left))
 
 pub shape-at-spec : {M : Type 1} → statement M
 shape-at-spec =

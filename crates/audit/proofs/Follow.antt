@@ -9,7 +9,8 @@ use borrow.Author.Tests.{eqb-true, eqb-false, eq-eqb}
 use lib.Dec.{eqb}
 use lib.ListN.{length, getD, set, length-set}
 use lib.Seq.{getD-set-same, getD-set-other}
-use Rattle.pool.specs.State.{lastLink, one, times}
+use Rattle.numbers.specs.Sum.{one}
+use Rattle.pool.specs.State.{lastLink, times}
 use Rattle.audit.specs.Chain.{Chain, Filled, follow}
 
 -- one more mark

@@ -12,7 +12,7 @@ use Rattle.shapes.specs.Shapes.{countOf, shapeAt}
 use Rattle.overlaps.specs.HowMany.{TilesByTouching}
 use Rattle.overlaps.proofs.Counting.{counts-once, counts-both}
 use Rattle.overlaps.proofs.Tiles.{list-counts}
-use Rattle.overlaps.proofs.Sums.{totals-once}
+use Rattle.overlaps.proofs.Once.{totals-once}
 use Rattle.pool.specs.Sound.{screenOf}
 use Rattle.calls.specs.declared.Binned.{Binned}
 use Rattle.calls.specs.declared.Counted.{Counted}

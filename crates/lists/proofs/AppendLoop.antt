@@ -8,8 +8,9 @@ use native.Mathlib.Omega.{arith}
 use borrow.Author.Tests.{eq-eqb, ne-eqb}
 use lib.ListN.{length, getD, take, drop}
 use lib.Seq.{drop-cons, getD-take, length-take-le, drop-length}
+use Rattle.numbers.specs.Sum.{one}
 use Rattle.pool.specs.Words.{Layout, headerWord, tileWord}
-use Rattle.pool.specs.State.{one, times}
+use Rattle.pool.specs.State.{times}
 use Rattle.pool.specs.Sound.{Sound, tilesOf}
 use Rattle.pool.proofs.Times.{times-head, times-tail}
 use Rattle.pool.proofs.Header.{keeps-tiles}

@@ -8,9 +8,10 @@ use native.Mathlib.Omega.{arith}
 use borrow.Author.Tests.{eq-eqb, ne-eqb}
 use lib.Dec.{eqb}
 use lib.ListN.{length, set}
+use Rattle.numbers.specs.Sum.{one}
 use Rattle.numbers.proofs.Ceil.{eq-or-ne}
 use Rattle.pool.specs.Words.{Layout, Fair, start, room, headerWord, tileWord, blockWord, tileSet, blockSet}
-use Rattle.pool.specs.State.{State, tileOf, linkTo, lastLink, one, times}
+use Rattle.pool.specs.State.{State, tileOf, linkTo, lastLink, times}
 use Rattle.pool.specs.Sound.{Shows}
 use Rattle.pool.proofs.Words.{start≤room, tile-set, tile-blockSet, block-tileSet, block-set, block-set-other-block, block-set-other-word}
 use Rattle.pool.proofs.Times.{one-same, times-append, times-differ}

@@ -8,9 +8,10 @@ use native.Mathlib.Nat.{not-suc-le-zero}
 use native.Mathlib.Omega.{arith}
 use lib.ListN.{length, length-set}
 use lib.Seq.{getD-set-same, getD-set-other}
+use Rattle.numbers.specs.Sum.{one}
 use Rattle.numbers.proofs.Ceil.{eq-or-ne}
 use Rattle.pool.specs.Words.{Layout}
-use Rattle.pool.specs.State.{Chained, empty, State, tileOf, one, times}
+use Rattle.pool.specs.State.{Chained, empty, State, tileOf, times}
 use Rattle.pool.specs.Sound.{Shows}
 use Rattle.pool.proofs.Times.{one-same, one-other, times-head, times-tail, times-differ}
 use Rattle.lists.specs.Appending.{pick, multiple, need, Distinct}

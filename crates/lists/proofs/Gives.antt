@@ -8,9 +8,10 @@ use native.Mathlib.Omega.{arith}
 use lib.Dec.{eqb}
 use lib.ListN.{length, drop}
 use lib.Seq.{drop-nil}
+use Rattle.numbers.specs.Sum.{one}
 use Rattle.numbers.proofs.Ceil.{eq-or-ne}
 use Rattle.pool.specs.Words.{Layout, Fair, room, headerWord, tileWord, blockWord}
-use Rattle.pool.specs.State.{linkTo, one, times, Holds}
+use Rattle.pool.specs.State.{linkTo, times, Holds}
 use Rattle.pool.proofs.Words.{header≤start, start≤room, header-set, header-set-other, length-headerSet, tile-headerSet, block-set, block-set-other-block, block-set-other-word, length-blockSet, header-blockSet, tile-blockSet, block-headerSet}
 use Rattle.pool.proofs.Times.{one-same, one-other, times-differ, times-head, times-tail}
 use Rattle.pool.proofs.Chain.{Same, frame}

@@ -7,8 +7,9 @@ use native.Mathlib.Nat.{mul-le-mul-left, zero-mod}
 use native.Mathlib.Omega.{arith}
 use borrow.Author.Tests.{eq-eqb}
 use lib.ListN.{length}
+use Rattle.numbers.specs.Sum.{one}
 use Rattle.pool.specs.Words.{Layout, start, room, headerWord, tileWord}
-use Rattle.pool.specs.State.{tileOf, linkTo, lastLink, one, times}
+use Rattle.pool.specs.State.{tileOf, linkTo, lastLink, times}
 use Rattle.pool.specs.Sound.{Shows, Sound, tilesOf, blocksOf}
 use Rattle.pool.specs.Lists.{listOf}
 use Rattle.pool.proofs.Words.{row-within, header≤start, start≤room}

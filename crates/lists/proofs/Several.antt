@@ -6,8 +6,9 @@ use Prim.Native.Nat.{ℕ, _+_, _≤_, _<_, max}
 use native.Mathlib.Nat.{eq-zero-or-pos}
 use native.Mathlib.Omega.{arith}
 use lib.ListN.{length, length-append}
+use Rattle.numbers.specs.Sum.{one}
 use Rattle.pool.specs.Words.{Layout, Fair, room, headerWord}
-use Rattle.pool.specs.State.{Chained, State, tileOf, one, times}
+use Rattle.pool.specs.State.{Chained, State, tileOf, times}
 use Rattle.pool.specs.Sound.{Shows, Sound, tilesOf, blocksOf}
 use Rattle.pool.specs.Lists.{listOf}
 use Rattle.pool.proofs.Times.{times-head, times-differ}

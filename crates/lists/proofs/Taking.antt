@@ -7,9 +7,10 @@ use native.Mathlib.Omega.{arith}
 use lib.Dec.{eqb}
 use lib.ListN.{length, getD, set, length-append}
 use lib.Seq.{drop-nil}
+use Rattle.numbers.specs.Sum.{one}
 use Rattle.numbers.specs.Ceil.{ceil}
 use Rattle.pool.specs.Words.{Layout, Fair, start, room, headerWord, tileWord, blockWord, tileSet, blockSet}
-use Rattle.pool.specs.State.{State, tileOf, linkTo, one, times, Holds}
+use Rattle.pool.specs.State.{State, tileOf, linkTo, times, Holds}
 use Rattle.pool.specs.Sound.{Shows}
 use Rattle.pool.proofs.Words.{header≤start, start≤room, header-set, header-set-other, length-headerSet, tile-set, tile-set-other-tile, tile-set-other-word, length-tileSet, header-tileSet, tile-headerSet, block-set, block-set-other-block, block-set-other-word, length-blockSet, header-blockSet, tile-blockSet, block-headerSet, block-tileSet}
 use Rattle.pool.proofs.Times.{one-same, times-append, times-differ}

@@ -9,9 +9,10 @@ use native.Mathlib.Omega.{arith}
 use lib.Dec.{eqb}
 use lib.ListN.{length, set, drop, length-set}
 use lib.Seq.{getD-set-same, getD-set-other}
+use Rattle.numbers.specs.Sum.{one}
 use Rattle.numbers.proofs.Ceil.{eq-or-ne}
 use Rattle.pool.specs.Words.{Layout, Fair, room, headerWord, tileWord, blockWord, headerSet, tileSet, blockSet}
-use Rattle.pool.specs.State.{State, tileOf, linkTo, one, times, Holds}
+use Rattle.pool.specs.State.{State, tileOf, linkTo, times, Holds}
 use Rattle.pool.specs.Sound.{Shows}
 use Rattle.pool.proofs.Words.{block-set-other-block, block-headerSet}
 use Rattle.pool.proofs.Times.{one-same, times-head, times-tail, times-differ}

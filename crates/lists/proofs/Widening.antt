@@ -6,10 +6,11 @@ use Prim.Native.Nat.{ℕ, zero, suc, _+_, _≤_, _<_}
 use native.Mathlib.Nat.{not-suc-le-zero}
 use native.Mathlib.Omega.{arith}
 use lib.ListN.{length, length-append}
+use Rattle.numbers.specs.Sum.{one}
 use Rattle.screen.specs.declared.Screen.{Screen}
 use Rattle.screen.specs.Screen.{Allowed, tiles}
 use Rattle.pool.specs.Words.{Layout, Fair, room, headerWord, tileWord, blockWord}
-use Rattle.pool.specs.State.{State, tileOf, one}
+use Rattle.pool.specs.State.{State, tileOf}
 use Rattle.pool.specs.Sound.{Shows, Sound, tilesOf, blocksOf}
 use Rattle.pool.specs.Lists.{listOf}
 use Rattle.pool.specs.Opening.{rising, headerFor, opening, openingState}

@@ -3,8 +3,9 @@ use mathlib.Core.Bool.{Bool, true, false}
 use mathlib.Core.List.{List, [], _∷_}
 use Prim.Native.Nat.{ℕ, _+_, _-_, _%_, _≤_, _<_, max}
 use lib.Dec.{eqb}
+use Rattle.numbers.specs.Sum.{one}
 use Rattle.pool.specs.Words.{Layout, headerWord, tileWord, blockWord, headerSet, tileSet, blockSet}
-use Rattle.pool.specs.State.{one, times}
+use Rattle.pool.specs.State.{times}
 
 abbrev pub pick : {A : Type 0} → Bool → A → A → A
 pick true a b = a

@@ -2,7 +2,8 @@
 use mathlib.Core.List.{List, [], _∷_, _++_}
 use Prim.Native.Nat.{ℕ, suc, _+_, max}
 use lib.ListN.{length, set}
-use Rattle.pool.specs.State.{Chained, emptied, State, tileOf, one}
+use Rattle.numbers.specs.Sum.{one}
+use Rattle.pool.specs.State.{Chained, emptied, State, tileOf}
 use Rattle.lists.specs.Appending.{pick, multiple}
 
 abbrev pub headOr : (d : ℕ) → List ℕ → ℕ

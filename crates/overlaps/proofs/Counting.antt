@@ -1,19 +1,15 @@
 -- How many numbers satisfy a condition: there is one such count, it grows with the condition, and a rising list of the numbers is as long.
 use mathlib.Core.Path.{_≡_, refl, sym, ap, _∙_}
-use mathlib.Core.Bool.{Bool, true, false, not, cond}
+use mathlib.Core.Bool.{Bool, true, false, not}
 use mathlib.Core.Logic.{_⊎_, ⊎-elim}
 use Prim.Native.Nat.{ℕ, zero, suc, _+_, _-_, _≤_, _<_}
 use native.Mathlib.Omega.{arith}
 use Rattle.numbers.specs.Says.{Says}
-use Rattle.numbers.specs.Sum.{sumTo}
+use Rattle.numbers.specs.Sum.{sumTo, one}
 use Rattle.numbers.proofs.Says.{says-not, says-false, says-once}
 use Rattle.numbers.proofs.Ceil.{lt-or-ge}
 use Rattle.numbers.proofs.Sum.{sumTo-add, sumTo-same, sumTo-all, sumTo-most, sumTo≤, sumTo-parts}
 use Rattle.overlaps.specs.HowMany.{HowMany}
-
--- 1 for yes, 0 for no
-abbrev pub one : Bool → ℕ
-one b = cond b 1 0
 
 one≤ : (b : Bool) → one b ≤ 1
 one≤ true = omega arith

@@ -2,3 +2,4 @@ pub mod Counting
 pub mod Spans
 pub mod Tiles
 pub mod Sums
+pub mod Once

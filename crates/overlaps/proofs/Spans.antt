@@ -5,7 +5,7 @@ use Prim.Native.Nat.{ℕ, _+_, _-_, _*_, _≤_, _<_}
 use native.Mathlib.Omega.{arith}
 use lib.Dec.{leb, ltb}
 use Rattle.numbers.specs.Says.{Says}
-use Rattle.numbers.specs.Sum.{sumTo}
+use Rattle.numbers.specs.Sum.{sumTo, one}
 use Rattle.numbers.proofs.Says.{says-iff, says-and, says-true}
 use Rattle.numbers.proofs.Deciding.{says-le, says-lt}
 use Rattle.numbers.proofs.Sum.{sumTo-same, sumTo-times, sumTo-rows}
@@ -19,7 +19,7 @@ use Rattle.touch.specs.Corner.{three, Box}
 use Rattle.walk.specs.declared.Spans.{Spans}
 use Rattle.walk.specs.Row.{MeetingBox}
 use Rattle.overlaps.specs.HowMany.{TilesByBox}
-use Rattle.overlaps.proofs.Counting.{one, rising-sum}
+use Rattle.overlaps.proofs.Counting.{rising-sum}
 
 abbrev extent : Span → ℕ
 extent span = span .end - span .start

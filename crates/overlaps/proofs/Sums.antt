@@ -1,4 +1,4 @@
--- The totals as computed numbers, how a shape changes them, and that there is one answer only.
+-- The totals as computed numbers: they are what the definition says, they fit their types, and how a shape changes them.
 use mathlib.Core.Path.{_≡_, refl, sym, ap, subst, _∙_}
 use mathlib.Core.Bool.{Bool, true, false, not, cond, _||_}
 use mathlib.Core.Logic.{_⊎_, inl, inr, ⊎-elim}
@@ -6,11 +6,11 @@ use Prim.Native.Nat.{ℕ, suc, _+_, _-_, _≤_, _<_}
 use native.Mathlib.Omega.{arith}
 use lib.Dec.{eqb, ltb}
 use Rattle.numbers.specs.Says.{Says}
-use Rattle.numbers.specs.Sum.{sumTo}
+use Rattle.numbers.specs.Sum.{sumTo, one}
 use Rattle.numbers.proofs.Says.{says-not, says-true, says-false}
 use Rattle.numbers.proofs.Deciding.{says-lt, says-eq}
 use Rattle.numbers.proofs.Ceil.{lt-or-ge}
-use Rattle.numbers.proofs.Sum.{sumTo-same, sumTo-all, sumTo-most, sumTo-part}
+use Rattle.numbers.proofs.Sum.{sumTo-all, sumTo-most, sumTo-part}
 use Rattle.screen.specs.declared.Screen.{Screen}
 use Rattle.screen.specs.Screen.{Allowed, tiles}
 use Rattle.shape.specs.declared.Shape.{Shape}
@@ -20,7 +20,7 @@ use Rattle.overlaps.specs.declared.Totals.{Totals}
 use Rattle.overlaps.specs.HowMany.{HowMany, TilesByBox, TilesByTouching}
 use Rattle.overlaps.specs.Totals.{OfEach, Largest, none, some, TotalsOf}
 use Rattle.overlaps.specs.Adding.{noTotals, withShape, withOther, With, counted, other, Bounded}
-use Rattle.overlaps.proofs.Counting.{one, counts-once, counts≤}
+use Rattle.overlaps.proofs.Counting.{counts-once, counts≤}
 use Rattle.overlaps.proofs.Tiles.{boxTiles, touchedTiles, box-counts, touched-counts, touched≤box}
 
 below-or-last : (i n : ℕ) → i < suc n → (i < n) ⊎ (i ≡ n)
@@ -191,56 +191,3 @@ module _ (d : Screen) (shape : ℕ → Shape) where
     sums-more (other out e) = subst (Sums (suc n)) (sym e) (sums-other out)
     sums-more (counted r boxed touched x y e) =
         subst (Sums (suc n)) (sym (e ∙ (λ i. withShape t n (counts-once x (box-counts d (shape n)) i) (counts-once y (touched-counts d (shape n) a) i)))) (sums-shape r)
-
--- ---- one answer only
-
-module _ (d : Screen) (shape : ℕ → Shape) (n : ℕ) where
-  each-once : (Is : Shape → ℕ → Type 0) {f g : ℕ → ℕ} → ((s : Shape) (x y : ℕ) → Is s x → Is s y → x ≡ y)
-      → OfEach Is shape n f → OfEach Is shape n g → (i : ℕ) → i < n → f i ≡ g i
-  each-once Is {f} {g} once h k i l = go (inRange (shape i)) (in-range-test (shape i))
-    where
-      go : (b : Bool) → Says b (InRange (shape i)) → f i ≡ g i
-      go true s = once (shape i) (f i) (g i) (h .in-range i l (s .yes refl)) (k .in-range i l (s .yes refl))
-      go false s = h .out-of-range i l (s .no refl) ∙ sym (k .out-of-range i l (s .no refl))
-
-  -- the larger of two largest numbers, and the later of two first places, cannot be
-  largest-once : {f g : ℕ → ℕ} {m p m′ p′ : ℕ} → ((i : ℕ) → i < n → f i ≡ g i) → Largest shape n f m p → Largest shape n g m′ p′ → (m ≡ m′) × (p ≡ p′)
-  largest-once same (none z e k) (none z′ e′ k′) = (e ∙ sym e′, k ∙ sym k′)
-  largest-once same (none z e k) (some l′ r′ e′ f′ k′) = absurd (z _ l′ r′)
-  largest-once same (some l r e f k) (none z′ e′ k′) = absurd (z′ _ l r)
-  largest-once {f} {g} {m} {p} {m′} {p′} same (some l r e most first) (some l′ r′ e′ most′ first′) =
-      let s = same p l in
-      let s′ = same p′ l′ in
-      let x = most p′ l′ r′ in
-      let x′ = most′ p l r in
-      let equal : m ≡ m′ = omega arith in
-      (equal, omega (arith, not-before (lt-or-ge p p′), not-after (lt-or-ge p′ p)))
-    where
-      not-before : (p < p′) ⊎ (p′ ≤ p) → p′ ≤ p
-      not-before = ⊎-elim (λ (w : p < p′). let y = first′ p w r in let s = same p l in let x = most p′ l′ r′ in let s′ = same p′ l′ in absurd (omega arith)) (λ (w : p′ ≤ p). w)
-
-      not-after : (p′ < p) ⊎ (p ≤ p′) → p ≤ p′
-      not-after = ⊎-elim (λ (w : p′ < p). let y = first p′ w r′ in let s′ = same p′ l′ in let x = most′ p l r in let s = same p l in absurd (omega arith)) (λ (w : p ≤ p′). w)
-
-  pub totals-once : {t u : Totals} → TotalsOf d shape n t → TotalsOf d shape n u → t ≡ u
-  totals-once {t} {u} h k =
-      let boxes = each-once (TilesByBox d) (λ s x y. counts-once) (h .boxes-are) (k .boxes-are) in
-      let touches = each-once (TilesByTouching d) (λ s x y. counts-once) (h .touches-are) (k .touches-are) in
-      let shapes = counts-once (h .shapes-is) (k .shapes-is) in
-      let others = counts-once (h .out-of-range-is) (k .out-of-range-is) in
-      let boxed = h .box-tiles-is ∙ sumTo-same n (h .boxes) (k .boxes) boxes ∙ sym (k .box-tiles-is) in
-      let touched = h .touched-tiles-is ∙ sumTo-same n (h .touches) (k .touches) touches ∙ sym (k .touched-tiles-is) in
-      let e = h .difference-is in
-      let f = k .difference-is in
-      let difference : t .difference ≡ u .difference = omega arith in
-      let largest = largest-once touches (h .largest-is) (k .largest-is) in
-      (λ i.
-      record {
-        shapes = shapes i;
-        «out_of_range» = others i;
-        «box_tiles» = boxed i;
-        «touched_tiles» = touched i;
-        difference = difference i;
-        largest = largest .0 i;
-        place = largest .1 i;
-      })

@@ -7,7 +7,7 @@ use native.Mathlib.Omega.{arith}
 use lib.ListN.{length, getD, take}
 use lib.Seq.{length-take-le}
 use Rattle.numbers.specs.Says.{Says}
-use Rattle.numbers.specs.Sum.{sumTo}
+use Rattle.numbers.specs.Sum.{sumTo, one}
 use Rattle.numbers.proofs.Says.{says-true}
 use Rattle.screen.specs.declared.Screen.{Screen}
 use Rattle.screen.specs.Screen.{Allowed, tiles}
@@ -21,7 +21,7 @@ use Rattle.touch.proofs.Theorem.{touching-meets-box}
 use Rattle.walk.specs.Touched.{TouchedTiles, Walked}
 use Rattle.walk.proofs.Touched.{rising}
 use Rattle.overlaps.specs.HowMany.{TilesByBox, TilesByTouching}
-use Rattle.overlaps.proofs.Counting.{one, rising-sum, counts-rise}
+use Rattle.overlaps.proofs.Counting.{rising-sum, counts-rise}
 
 module _ (d : Screen) (shape : Shape) where
   unfoldable pub inBox : ℕ → Bool

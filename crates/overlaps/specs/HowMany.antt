@@ -1,9 +1,9 @@
 -- How many numbers satisfy a condition, and how many tiles of a screen a shape has by box and by touching.
 use mathlib.Core.Path.{_≡_}
-use mathlib.Core.Bool.{Bool, cond}
+use mathlib.Core.Bool.{Bool}
 use Prim.Native.Nat.{ℕ, _<_}
 use Rattle.numbers.specs.Says.{Says}
-use Rattle.numbers.specs.Sum.{sumTo}
+use Rattle.numbers.specs.Sum.{sumTo, one}
 use Rattle.screen.specs.declared.Screen.{Screen}
 use Rattle.screen.specs.Screen.{tiles}
 use Rattle.screen.specs.Rectangle.{rectangle}
@@ -15,7 +15,7 @@ use Rattle.touch.specs.Corner.{Box}
 pub record HowMany (n : ℕ) (P : ℕ → Type 0) (c : ℕ) : Type 0 where
   pub test : ℕ → Bool
   pub says : (i : ℕ) → i < n → Says (test i) (P i)
-  pub sum : c ≡ sumTo n (λ i. cond (test i) 1 0)
+  pub sum : c ≡ sumTo n (λ i. one (test i))
 
 -- c tiles of the screen meet the shape's bounding box
 abbrev pub TilesByBox : Screen → Shape → (c : ℕ) → Type 0

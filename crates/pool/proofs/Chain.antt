@@ -8,8 +8,9 @@ use native.Mathlib.Omega.{arith}
 use lib.ListN.{length, getD, drop, length-drop}
 use lib.Seq.{drop-append-le, drop-at, drop-nil, getD-append-seam}
 use lib.Dec.{eqb}
+use Rattle.numbers.specs.Sum.{one}
 use Rattle.numbers.proofs.Ceil.{eq-or-ne}
-use Rattle.pool.specs.State.{linkTo, lastLink, one, times, Holds}
+use Rattle.pool.specs.State.{linkTo, lastLink, times, Holds}
 use Rattle.pool.proofs.Times.{one-same, one-other, times-head, times-tail}
 
 -- block b has the same words

@@ -7,8 +7,9 @@ use native.Mathlib.Omega.{arith}
 use lib.Dec.{eqb}
 use lib.ListN.{length}
 use lib.Seq.{drop-nil}
+use Rattle.numbers.specs.Sum.{one}
 use Rattle.numbers.proofs.Ceil.{eq-or-ne}
-use Rattle.pool.specs.State.{linkTo, one, times, Holds}
+use Rattle.pool.specs.State.{linkTo, times, Holds}
 use Rattle.pool.specs.Opening.{rising}
 use Rattle.pool.proofs.Times.{one-same, one-other}
 

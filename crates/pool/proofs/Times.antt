@@ -8,7 +8,8 @@ use native.Mathlib.Omega.{arith}
 use borrow.Author.Tests.{eq-eqb, ne-eqb}
 use lib.Dec.{eqb}
 use lib.ListN.{length, getD, set}
-use Rattle.pool.specs.State.{Chained, empty, one, times, timesInTiles}
+use Rattle.numbers.specs.Sum.{one}
+use Rattle.pool.specs.State.{Chained, empty, times, timesInTiles}
 
 pub one-same : (b : ℕ) → one (eqb b b) ≡ 1
 one-same b = ap one (eq-eqb b b refl)

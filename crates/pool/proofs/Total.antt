@@ -8,11 +8,11 @@ use native.Mathlib.Omega.{arith}
 use lib.Dec.{eqb}
 use lib.ListN.{length, getD}
 use Rattle.numbers.specs.Ceil.{ceil}
-use Rattle.numbers.specs.Sum.{sumTo}
+use Rattle.numbers.specs.Sum.{one, sumTo}
 use Rattle.numbers.proofs.Ceil.{eq-or-ne, ceil-enough}
 use Rattle.numbers.proofs.Sum.{sumTo-add, sumTo-all, sumTo-first}
 use Rattle.pool.specs.Words.{Layout, Fair, tileWord, headerWord}
-use Rattle.pool.specs.State.{Chained, empty, State, tileOf, one, times, timesInTiles, timesInAll}
+use Rattle.pool.specs.State.{Chained, empty, State, tileOf, times, timesInTiles, timesInAll}
 use Rattle.pool.specs.Sound.{Shows}
 use Rattle.pool.proofs.Times.{one-same, one-other, times-head, times-tail}
 use Rattle.pool.proofs.State.{chained<}

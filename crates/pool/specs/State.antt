@@ -1,10 +1,10 @@
 -- What a pool says: for each tile the blocks of its chain and the ids of its list, and the blocks of the free chain.
 use mathlib.Core.Path.{_≡_}
-use mathlib.Core.Bool.{Bool, true, false}
-use mathlib.Core.List.{List, [], _∷_, _++_}
-use Prim.Native.Nat.{ℕ, zero, suc, _+_, _<_}
+use mathlib.Core.List.{List, [], _∷_}
+use Prim.Native.Nat.{ℕ, suc, _+_, _<_}
 use lib.ListN.{getD, drop}
 use lib.Dec.{eqb}
+use Rattle.numbers.specs.Sum.{one}
 
 -- A tile: its blocks in the order of the chain, its ids in the order of the list, and its mark, the most entries that it had since the opening.
 pub record Chained : Type 0 where
@@ -37,10 +37,6 @@ lastLink d [] = d
 lastLink d (b ∷ bs) = lastLink (suc b) bs
 
 -- how often b stands in a list
-abbrev pub one : Bool → ℕ
-one true = 1
-one false = 0
-
 abbrev pub times : (b : ℕ) → List ℕ → ℕ
 times b [] = 0
 times b (c ∷ cs) = one (eqb b c) + times b cs

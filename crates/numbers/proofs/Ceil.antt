@@ -10,6 +10,9 @@ use Rattle.numbers.specs.Ceil.{ceil}
 pub lt-or-ge : (a b : ℕ) → (a < b) ⊎ (b ≤ a)
 lt-or-ge a b = elim (decLt a b) [ yes h ↦ inl h | no n ↦ inr (omega arith) ]
 
+pub below-or-last : (i n : ℕ) → i < suc n → (i < n) ⊎ (i ≡ n)
+below-or-last i n h = ⊎-elim (λ (l : i < n). inl l) (λ (l : n ≤ i). inr (omega arith)) (lt-or-ge i n)
+
 pub eq-or-ne : (a b : ℕ) → (a ≡ b) ⊎ (a ≢ b)
 eq-or-ne a b = elim (ℕ-discrete a b) [ yes h ↦ inl h | no n ↦ inr n ]
 

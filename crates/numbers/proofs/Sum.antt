@@ -4,7 +4,7 @@ use mathlib.Core.Logic.{_⊎_, ⊎-elim}
 use Prim.Native.Nat.{ℕ, zero, suc, _+_, _*_, _≤_, _<_, zero-le}
 use native.Mathlib.Omega.{arith}
 use Rattle.numbers.specs.Sum.{sumTo}
-use Rattle.numbers.proofs.Ceil.{lt-or-ge}
+use Rattle.numbers.proofs.Ceil.{below-or-last}
 
 pub sumTo-add : (n : ℕ) (f g : ℕ → ℕ) → sumTo n (λ b. f b + g b) ≡ sumTo n f + sumTo n g
 sumTo-add zero f g = refl
@@ -34,9 +34,7 @@ sumTo-most (suc n) k f h = omega (arith, sumTo-most n k f (λ b hb. h b (omega a
 pub sumTo-part : (n : ℕ) (f : ℕ → ℕ) (b : ℕ) → b < n → f b ≤ sumTo n f
 sumTo-part zero f b h = absurd (omega arith)
 sumTo-part (suc n) f b h =
-    ⊎-elim (λ (l : b < n). omega (arith, sumTo-part n f b l))
-    (λ (l : n ≤ b). let e : b ≡ n = omega arith in omega (arith, ap f e))
-    (lt-or-ge b n)
+    ⊎-elim (λ (l : b < n). omega (arith, sumTo-part n f b l)) (λ (e : b ≡ n). omega (arith, ap f e)) (below-or-last b n h)
 
 pub sumTo-times : (n k : ℕ) (f : ℕ → ℕ) → sumTo n (λ b. k * f b) ≡ k * sumTo n f
 sumTo-times zero k f = omega arith

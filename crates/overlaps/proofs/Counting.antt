@@ -7,7 +7,7 @@ use native.Mathlib.Omega.{arith}
 use Rattle.numbers.specs.Says.{Says}
 use Rattle.numbers.specs.Sum.{sumTo, one}
 use Rattle.numbers.proofs.Says.{says-not, says-false, says-once}
-use Rattle.numbers.proofs.Ceil.{lt-or-ge}
+use Rattle.numbers.proofs.Ceil.{below-or-last}
 use Rattle.numbers.proofs.Sum.{sumTo-add, sumTo-same, sumTo-all, sumTo-most, sumTo≤, sumTo-parts}
 use Rattle.overlaps.specs.HowMany.{HowMany}
 
@@ -82,11 +82,10 @@ rising-sum f (suc n) m test r =
 
     -- a number of the list that is below the last stands before it
     earlier : (i : ℕ) → i < suc n → f i < f n → i < n
-    earlier i l h = ⊎-elim (λ (u : i < n). u) (λ (u : n ≤ i). let e : i ≡ n = omega arith in absurd (omega (arith, ap f e))) (lt-or-ge i n)
+    earlier i l h = ⊎-elim (λ (u : i < n). u) (λ (e : i ≡ n). absurd (omega (arith, ap f e))) (below-or-last i n l)
 
     last : (i : ℕ) → i < suc n → f i ≤ f n
-    last i l =
-        ⊎-elim (λ (u : i < n). let h = r .rising i n u (omega arith) in omega arith) (λ (u : n ≤ i). let e : i ≡ n = omega arith in omega (arith, ap f e)) (lt-or-ge i n)
+    last i l = ⊎-elim (λ (u : i < n). let h = r .rising i n u (omega arith) in omega arith) (λ (e : i ≡ n). omega (arith, ap f e)) (below-or-last i n l)
 
     after : sumTo rest (λ k. one (test (suc (f n) + k))) ≡ 0
     after =

@@ -1,7 +1,7 @@
 -- The totals as computed numbers: they are what the definition says, they fit their types, and how a shape changes them.
 use mathlib.Core.Path.{_≡_, refl, sym, ap, subst, _∙_}
 use mathlib.Core.Bool.{Bool, true, false, not, cond, _||_}
-use mathlib.Core.Logic.{_⊎_, inl, inr, ⊎-elim}
+use mathlib.Core.Logic.{⊎-elim}
 use Prim.Native.Nat.{ℕ, suc, _+_, _-_, _≤_, _<_}
 use native.Mathlib.Omega.{arith}
 use lib.Dec.{eqb, ltb}
@@ -9,7 +9,7 @@ use Rattle.numbers.specs.Says.{Says}
 use Rattle.numbers.specs.Sum.{sumTo, one}
 use Rattle.numbers.proofs.Says.{says-not, says-true, says-false}
 use Rattle.numbers.proofs.Deciding.{says-lt, says-eq}
-use Rattle.numbers.proofs.Ceil.{lt-or-ge}
+use Rattle.numbers.proofs.Ceil.{lt-or-ge, below-or-last}
 use Rattle.numbers.proofs.Sum.{sumTo-all, sumTo-most, sumTo-part}
 use Rattle.screen.specs.declared.Screen.{Screen}
 use Rattle.screen.specs.Screen.{Allowed, tiles}
@@ -22,9 +22,6 @@ use Rattle.overlaps.specs.Totals.{OfEach, Largest, none, some, TotalsOf}
 use Rattle.overlaps.specs.Adding.{noTotals, withShape, withOther, With, counted, other, Bounded}
 use Rattle.overlaps.proofs.Counting.{counts-once, counts≤}
 use Rattle.overlaps.proofs.Tiles.{boxTiles, touchedTiles, box-counts, touched-counts, touched≤box}
-
-below-or-last : (i n : ℕ) → i < suc n → (i < n) ⊎ (i ≡ n)
-below-or-last i n h = ⊎-elim (λ (l : i < n). inl l) (λ (l : n ≤ i). inr (omega arith)) (lt-or-ge i n)
 
 module _ (d : Screen) (shape : ℕ → Shape) where
   unfoldable pub inside : ℕ → Bool

@@ -19,7 +19,7 @@ use Rattle.touch.specs.Corner.{three, bounds, Box}
 use Rattle.touch.proofs.Answers.{overlap, overlap-says, corner, corner-says-touching}
 use Rattle.touch.proofs.Theorem.{touching-meets-box}
 use Rattle.walk.specs.Touched.{TouchedTiles, Walked}
-use Rattle.walk.proofs.Touched.{rising}
+use Rattle.walk.proofs.Touched.{rises-throughout}
 use Rattle.overlaps.specs.HowMany.{TilesByBox, TilesByTouching}
 use Rattle.overlaps.proofs.Counting.{rising-sum, counts-rise}
 
@@ -60,7 +60,7 @@ module _ (d : Screen) (shape : Shape) where
             sym
             (rising-sum (λ i. getD ts i 0) (length ts) (tiles d) touched
             (record {
-              rising = rising ts (h .rising);
+              rising = rises-throughout ts (h .rising);
               below = λ i l. h .touched i l .0;
               passes = λ i l. says-true (touched-says a (getD ts i 0) (h .touched i l .0)) (h .touched i l .1);
               all = λ t l e. h .all t l (touched-says a t l .yes e);

@@ -8,7 +8,7 @@ use Rattle.shape.specs.Shape.{InRange}
 use Rattle.overlaps.specs.declared.Totals.{Totals}
 use Rattle.overlaps.specs.HowMany.{HowMany, TilesByBox, TilesByTouching}
 
--- f i is the number of the shape at place i, for which Is, where the shape is in range, and 0 where it is not
+-- where the shape at place i is in range, f i is its number, by Is; where it is not, f i is 0
 pub record OfEach (Is : Shape → ℕ → Type 0) (shape : ℕ → Shape) (n : ℕ) (f : ℕ → ℕ) : Type 0 where
   pub in-range : (i : ℕ) → i < n → InRange (shape i) → Is (shape i) (f i)
   pub out-of-range : (i : ℕ) → i < n → (InRange (shape i) → ⊥) → f i ≡ 0

@@ -29,7 +29,7 @@ pub record RightWords (w : ℕ → ℤ) : Type 0 where
 abbrev pub vertexFrom : (ℕ → ℤ) → (x y : ℕ) → Vertex
 vertexFrom w x y = record { x = w x; y = w y }
 
--- the shape of right words
+-- the shape of right words: by their kind, which is 1, 2 or 3, a point, a line or a triangle
 unfoldable pub shapeFrom : (ℕ → ℤ) → Shape
 shapeFrom w =
     cond (leZ (w 0) (pos 1)) (Point (vertexFrom w 1 2))

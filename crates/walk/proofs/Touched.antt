@@ -19,9 +19,10 @@ use Rattle.walk.proofs.Lists.{lists-few, lists-as-long, lists-same}
 
 -- ---- a list as the front of itself
 
-pub rising : (ts : List ℕ) → ((i : ℕ) → suc i < length ts → getD ts i 0 < getD ts (suc i) 0) → (i j : ℕ) → i < j → j < length ts → getD ts i 0 < getD ts j 0
-rising ts r i zero h k = absurd (omega arith)
-rising ts r i (suc j) h k = last-or-before (λ l. rising ts r i j l (omega arith)) (lt-or-ge i j)
+-- each less than the next, and so less than every later one
+pub rises-throughout : (ts : List ℕ) → ((i : ℕ) → suc i < length ts → getD ts i 0 < getD ts (suc i) 0) → (i j : ℕ) → i < j → j < length ts → getD ts i 0 < getD ts j 0
+rises-throughout ts r i zero h k = absurd (omega arith)
+rises-throughout ts r i (suc j) h k = last-or-before (λ l. rises-throughout ts r i j l (omega arith)) (lt-or-ge i j)
   where
     last-or-before : (i < j → getD ts i 0 < getD ts j 0) → (i < j) ⊎ (j ≤ i) → getD ts i 0 < getD ts (suc j) 0
     last-or-before f =
@@ -34,7 +35,7 @@ module _ {d : Screen} {shape : Shape} where
       record {
         size = refl;
         rest = λ i l. refl;
-        rising = rising ts (h .rising);
+        rising = rises-throughout ts (h .rising);
         sound = h .touched;
         whole = λ t p. let w = h .all t (p .0) (p .1) in record { index = w .0; before = w .1; there = w .2 };
       }

@@ -1,3 +1,5 @@
 pub mod Audits
 pub mod Placing
+pub mod Keeping
+pub mod OneByOne
 pub mod Units

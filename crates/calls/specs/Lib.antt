@@ -1,4 +1,5 @@
 pub mod Tables
+pub mod BinList
 pub mod Questions
 pub mod Units
 pub mod Overlaps

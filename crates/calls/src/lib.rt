@@ -20,10 +20,16 @@ ghost use Rattle.pool.specs.Opening.{OpenSays};
 ghost use Rattle.shape.specs.Shape.{InRange};
 ghost use Rattle.audit.specs.Answer.{HeaderOf};
 ghost use Rattle.calls.specs.Tables.{AuditSays, refusedBin, PlaceSays, BinSays, BinPixelsSays, ReadSays, HighWaterSays, ReleaseSays};
-ghost use Prim.Native.Nat.{_<_};
+ghost use Prim.Native.Nat.{_≤_, _<_};
+ghost use lib.ListN.{length};
+ghost use Rattle.shapes.specs.Shapes.{RightList, countOf};
+ghost use Rattle.calls.specs.BinList.{idFrom, AllBinned, BinListSays};
 ghost use Rattle.calls.specs.Questions.{QuestionSays, notAsked, BoxSays, CornerSays};
 ghost use Rattle.calls.specs.Units.{UnitSays};
 ghost use Rattle.calls.specs.Overlaps.{notCounted, OverlapsSays};
+
+// The words of a shape in a list that is binned: those that say it, and its id.
+const NAMED_WORDS: usize = 8;
 
 // What a bin answers: its number, the tiles listed and the blocks taken.
 pub struct Binned {
@@ -105,24 +111,37 @@ fn refused_bin(number: u32) -> Binned
 }
 
 // Appends the id to the list of each tile that the shape touches, in rising number, where there are as many free blocks as that needs: 0, or 8.
-// Nothing is written before the blocks are counted.
-fn place(pool: &mut [u32], header: Header, shape: Shape, id: u32) -> Binned
-    requires { ⌜ (Sound (layoutOf (now pool)) (now pool)) × (HeaderOf (layoutOf (now pool)) (now pool) header) × (InRange shape) × (id < edition .limit) ⌝ }
+// Nothing is written before the blocks are counted. `touched` is lent for the tiles.
+fn place(pool: &mut [u32], header: Header, shape: Shape, id: u32, touched: &mut [u32]) -> Binned
+    requires { ⌜ (Sound (layoutOf (now pool)) (now pool)) × (HeaderOf (layoutOf (now pool)) (now pool) header) × (InRange shape) × (id < edition .limit) × (4096 ≤ length (now touched)) ⌝ }
     ensures { λ r. ⌜ PlaceSays (now (pool .entry)) shape id r (now (pool .exit)) ⌝ }
 {
-    let mut touched = [0u32; 4096];
-    let count = walk::touched_tiles(header.screen, shape, &mut touched);
+    let count = walk::touched_tiles(header.screen, shape, touched);
     let tiles = wide(header.tiles);
-    let blocks = lists::need(pool, header.layout, tiles, &touched, wide(count));
+    let blocks = lists::need(pool, header.layout, tiles, touched, wide(count));
     if wide(lists::free(pool, header.layout)) < blocks {
         return refused_bin(8);
     }
-    lists::append_all(pool, header.layout, tiles, &touched, wide(count), id);
+    lists::append_all(pool, header.layout, tiles, touched, wide(count), id);
     Binned {
         number: 0,
         tiles: count,
         blocks: narrow(blocks),
     }
+}
+
+// Bins a whole-number shape on a sound pool: 0, the tiles listed and the blocks taken; or 5, 7, 8 in that order. `touched` is lent for the tiles.
+fn bin_sound(pool: &mut [u32], header: Header, shape: Shape, id: u32, touched: &mut [u32]) -> Binned
+    requires { ⌜ (Sound (layoutOf (now pool)) (now pool)) × (HeaderOf (layoutOf (now pool)) (now pool) header) × (4096 ≤ length (now touched)) ⌝ }
+    ensures { λ r. ⌜ BinSays (now (pool .entry)) shape id r (now (pool .exit)) ⌝ }
+{
+    if pool::ID_LIMIT <= id {
+        return refused_bin(5);
+    }
+    if !shape::in_range(shape) {
+        return refused_bin(7);
+    }
+    place(pool, header, shape, id, touched)
 }
 
 // Bins a whole-number shape: 0, the tiles listed and the blocks taken; or 4, 5, 7, 8 in that order.
@@ -133,13 +152,8 @@ pub fn bin(pool: &mut [u32], shape: Shape, id: u32) -> Binned
     let Audited::Sound(header) = audited else {
         return refused_bin(4);
     };
-    if pool::ID_LIMIT <= id {
-        return refused_bin(5);
-    }
-    if !shape::in_range(shape) {
-        return refused_bin(7);
-    }
-    place(pool, header, shape, id)
+    let mut touched = [0u32; 4096];
+    bin_sound(pool, header, shape, id, &mut touched)
 }
 
 // Bins a shape in pixels: 0, the tiles listed and the blocks taken; or 4, 5, then 6 or 7 as its first offence decides, then 8.
@@ -157,7 +171,58 @@ pub fn bin_pixels(pool: &mut [u32], shape: PixelShape, id: u32) -> Binned
     let SnappedShape::Whole(whole) = snapped else {
         return refused_bin(snap::shape_number(snapped));
     };
-    place(pool, header, whole, id)
+    let mut touched = [0u32; 4096];
+    place(pool, header, whole, id, &mut touched)
+}
+
+// The id that a word of a list says: for a word below 0, the first number past the ids.
+fn id_from(word: i32) -> u32
+    ensures { λ r. ⌜ r ≡ idFrom word ⌝ }
+{
+    if word < 0 {
+        return pool::ID_LIMIT;
+    }
+    word as u32
+}
+
+// Bins the shapes of a right list one after the other on a sound pool, and writes the number of each one's answer to the byte at its place. `touched` is
+// lent for the tiles.
+fn bin_all(pool: &mut [u32], header: Header, list: &[i32], answers: &mut [u8], touched: &mut [u32])
+    requires { ⌜ (Sound (layoutOf (now pool)) (now pool)) × (HeaderOf (layoutOf (now pool)) (now pool) header) × (RightList 8 (now list)) × (countOf 8 (now list) ≤ length (now answers)) × (4096 ≤ length (now touched)) ⌝ }
+    ensures { λ r. ⌜ AllBinned (now (list .entry)) (now (answers .entry)) (now (answers .exit)) (now (pool .entry)) (now (pool .exit)) ⌝ }
+{
+    let words = list.len();
+    let mut place = 0;
+    let mut at = 0;
+    while at < words {
+        let shape = shapes::shape_at(list, at);
+        let id = id_from(list[at + shapes::WORDS]);
+        let binned = bin_sound(pool, header, shape, id, touched);
+        answers[place] = binned.number as u8;
+        place += 1;
+        at += NAMED_WORDS;
+    }
+}
+
+// Bins a list of whole-number shapes, eight words to a shape, the last of them its id, and writes the number of each one's answer to the byte at its
+// place: 0, and what single bins in this order would answer and leave; or 4, 15, 11 in that order, with nothing written.
+pub fn bin_list(pool: &mut [u32], list: &[i32], answers: &mut [u8]) -> u32
+    ensures { λ r. ⌜ BinListSays (now (pool .entry)) (now (list .entry)) (now (answers .entry)) r (now (pool .exit)) (now (answers .exit)) ⌝ }
+{
+    let audited = audit::audit(pool);
+    let Audited::Sound(header) = audited else {
+        return 4;
+    };
+    let checked = shapes::check(list, NAMED_WORDS);
+    let Checked::Right(count) = checked else {
+        return 15;
+    };
+    if answers.len() < count {
+        return 11;
+    }
+    let mut touched = [0u32; 4096];
+    bin_all(pool, header, list, answers, &mut touched);
+    0
 }
 
 // Reads the id at a place of a tile's list, places counted from 0: 0 and the id, or 4, 9, 10 in that order.

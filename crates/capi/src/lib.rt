@@ -10,6 +10,7 @@ ghost use Rattle.pool.specs.Words.{edition, second};
 ghost use Rattle.pool.specs.Opening.{OpenSays};
 ghost use Rattle.shape.specs.declared.Shape.the-variants.{Point, Line, Triangle};
 ghost use Rattle.calls.specs.Tables.{AuditSays, BinSays, BinPixelsSays, ReadSays, HighWaterSays, ReleaseSays};
+ghost use Rattle.calls.specs.BinList.{BinListSays};
 ghost use Rattle.calls.specs.Questions.{BoxSays, CornerSays};
 ghost use Rattle.calls.specs.Units.{UnitSays};
 ghost use Rattle.calls.specs.Overlaps.{OverlapsSays};
@@ -197,6 +198,14 @@ pub extern "C" fn flourscoop_bin_triangle(
         tiles,
         blocks,
     )
+}
+
+// Bins a list of shapes in units, eight words to a shape, the last of them its id, and writes a byte for each: 0, or 4, 15, 11 in that order.
+#[no_mangle]
+pub extern "C" fn flourscoop_bin_list(pool: &mut [u32], list: &[i32], answers: &mut [u8]) -> u32
+    ensures { λ r. ⌜ BinListSays (now (pool .entry)) (now (list .entry)) (now (answers .entry)) r (now (pool .exit)) (now (answers .exit)) ⌝ }
+{
+    calls::bin_list(pool, list, answers)
 }
 
 // Bins a point in pixels: 0, the tiles listed and the blocks taken; or 4, 5, then 6 or 7 as its first offence decides, then 8.

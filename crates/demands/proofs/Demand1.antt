@@ -22,9 +22,10 @@ use Rattle.calls.specs.declared.Answered.{Answered}
 use Rattle.pool.specs.Opening.{OpenSays}
 use Rattle.calls.specs.Tables.{AuditSays, PlaceSays, BinSays, BinPixelsSays, ReadSays, HighWaterSays, ReleaseSays, refusedBin}
 use Rattle.calls.specs.Questions.{RefusedWith, TouchSays, BoxSays, CornerSays}
+use Rattle.calls.proofs.Keeping.{bin-appends}
 use Rattle.demands.specs.History.{Entry, binned, binned-pixels, found, released, numberOf, Step}
 use Rattle.demands.specs.Demand1.{Among, refusals, RestZero, Outside, Demand1, Demand1Open, Demand1Audit, Demand1HighWater, Demand1Question}
-use Rattle.demands.proofs.Accepted.{bin-appends, same-outside, kept-outside}
+use Rattle.demands.proofs.Accepted.{same-outside, kept-outside}
 
 -- ---- a refusal, and an accepted call
 

@@ -25,10 +25,11 @@ use Rattle.lists.proofs.Releases.{release-releases}
 use Rattle.calls.specs.declared.Binned.{Binned}
 use Rattle.calls.specs.declared.Released.{Released}
 use Rattle.calls.specs.Tables.{PlaceSays, BinSays, BinPixelsSays, ReleaseSays, refusedBin, listIn}
+use Rattle.calls.proofs.Keeping.{bin-appends, kept-layout}
 use Rattle.demands.specs.Demand2.{StaysSound, NoRoom, HasRoom, Listed, Demand2Bin, Demand2Pixels, Emptied, Demand2Release}
 use Rattle.demands.proofs.Touched.{touched-in, untouched-in}
 use Rattle.demands.proofs.OneOutcome.{bin-one-outcome, bin-pixels-one-outcome}
-use Rattle.demands.proofs.Accepted.{bin-appends, same-stays, kept-layout, kept-stays, kept-list, kept-mark}
+use Rattle.demands.proofs.Accepted.{same-stays, kept-stays, kept-list, kept-mark}
 
 -- ---- the last rows of both bins
 

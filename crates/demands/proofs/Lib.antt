@@ -14,3 +14,4 @@ pub mod HighWater
 pub mod Sizing
 pub mod OldLayout
 pub mod Editions
+pub mod BinList

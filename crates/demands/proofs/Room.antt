@@ -33,10 +33,10 @@ use Rattle.calls.specs.declared.Found.{Found}
 use Rattle.calls.specs.declared.HighWater.{HighWater}
 use Rattle.calls.specs.Tables.{AuditSays, PlaceSays, BinSays, BinPixelsSays, ReadSays, HighWaterSays, ReleaseSays, listIn, freeIn}
 use Rattle.calls.proofs.Placing.{touched-distinct}
+use Rattle.calls.proofs.Keeping.{bin-appends}
 use Rattle.demands.specs.History.{Entry, binned, binned-pixels, found, released, Step, Run}
 use Rattle.demands.specs.Room.{roomOf, SameRoom, PastTheRoom, PastTheRoomAudit, PastTheRoomHighWater, PastTheRoomOpen}
 use Rattle.demands.proofs.OneOutcome.{open-one-outcome, audit-one-outcome, high-water-one-outcome}
-use Rattle.demands.proofs.Accepted.{bin-appends}
 use Rattle.demands.proofs.Runs.{runs-one-outcome}
 
 -- ---- two slices with the same room
@@ -47,10 +47,10 @@ agree S = record { words = λ i h. S .words i (omega arith) }
 layout-same : {p w : List ℕ} → SameRoom p w → layoutOf w ≡ layoutOf p
 layout-same S = agree-layout (agree S)
 
-same-sound : {p w : List ℕ} → SameRoom p w → Sound (layoutOf p) p → Sound (layoutOf w) w
+pub same-sound : {p w : List ℕ} → SameRoom p w → Sound (layoutOf p) p → Sound (layoutOf w) w
 same-sound {p} S P = rw (layout-same S) (agree-sound (layout-fair p) (agree S) (S .long .0 (P .opened .long)) P)
 
-same-sym : {p w : List ℕ} → SameRoom p w → SameRoom w p
+pub same-sym : {p w : List ℕ} → SameRoom p w → SameRoom w p
 same-sym {p} {w} S =
     let e : roomOf w ≡ roomOf p = ap (λ (L : Layout). room L (tilesOf w) (blocksOf w)) (layout-same S) ∙ agree-room (layout-fair p) (agree S) in
     record { words = λ i h. sym (S .words i (omega arith)); long = rw e (S .long .1, S .long .0) }
@@ -139,7 +139,7 @@ module _ {p w : List ℕ} (S : SameRoom p w) where
       let needs = need-same (touched-distinct T) in
       (appendAll (layoutOf w) (tilesOf w) w ts id, PlaceSays.done ts (touched-same T) (omega (arith, free-same)) (rw needs e) refl, rw f (appended-same P id i T l))
 
-  bin-follows : {shape : Shape} {id : ℕ} {a : Binned} {q : List ℕ} → BinSays p shape id a q → Follows (λ v. BinSays w shape id a v) q
+  pub bin-follows : {shape : Shape} {id : ℕ} {a : Binned} {q : List ℕ} → BinSays p shape id a q → Follows (λ v. BinSays w shape id a v) q
   bin-follows (BinSays.damaged n e f) = unchanged _ f (BinSays.damaged (unsound n) e refl)
   bin-follows (BinSays.bad-id P i e f) = unchanged _ f (BinSays.bad-id (sound P) i e refl)
   bin-follows (BinSays.out-of-range P i o e f) = unchanged _ f (BinSays.out-of-range (sound P) i o e refl)

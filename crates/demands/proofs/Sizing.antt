@@ -27,9 +27,9 @@ use Rattle.calls.specs.declared.Released.{Released}
 use Rattle.calls.specs.declared.Found.{Found}
 use Rattle.calls.specs.Tables.{PlaceSays, BinSays, BinPixelsSays, ReadSays, ReleaseSays, refusedBin, markIn, freeIn}
 use Rattle.calls.proofs.Placing.{touched-distinct}
+use Rattle.calls.proofs.Keeping.{bin-appends}
 use Rattle.demands.specs.History.{Entry, binned, binned-pixels, found, released, callOf, callsOf, numberOf, Step, Run}
 use Rattle.demands.specs.Sizing.{NoneForRoom, FreeThroughout, blocksByMarks, FewerAreEnough, MarksAreEnough}
-use Rattle.demands.proofs.Accepted.{bin-appends}
 use Rattle.demands.proofs.Demand2.{demand-2-bin, demand-2-pixels}
 use Rattle.demands.proofs.Runs.{step-one-outcome, run-stays}
 use Rattle.demands.proofs.Alike.{alike-sound, alike-sound′, need-same, step-follows}

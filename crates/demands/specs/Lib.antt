@@ -9,3 +9,4 @@ pub mod HighWater
 pub mod Sizing
 pub mod OldLayout
 pub mod Editions
+pub mod BinList

@@ -1,5 +1,6 @@
 -- `calls::bin_pixels` meets its contract: each test tells a row of the table, or that its cause does not apply.
 use mathlib.Core.Path.{_≡_, refl, sym, ap, _∙_}
+use native.Mathlib.Omega.{arith}
 use Rattle.snap.specs.Shapes.{shapeNumberOf}
 use Rattle.snap.proofs.Shapes.{whole-in-range}
 use Rattle.calls.specs.Tables.{refusedBin, damaged, bad-id, offence, placed}
@@ -60,19 +61,26 @@ returns-3 c =
     offence (k .0) (c .before .before .before .before .before .if1 .left) _ (sym (c .before .before .before .before .snap-shape .ensures) ∙ e)
     (c .refused-bin3 .ensures ∙ ap refusedBin (c .before .shape-number .ensures ∙ ap shapeNumberOf e)) refl
 
+slice-aggregate-place : tie.Need-slice-aggregate-place
+slice-aggregate-place c = search needs
+
 place-requires : tie.Need-place-requires
 place-requires c κs =
-    let k = told-sound (c .before .before .before .before .before .before .before .audited .given .1) (c .before .before .before .before .before .before .before .before .before .audit .ensures) in
-    let e = sym (c .before .before .before .before .snap-shape .ensures) ∙ c .before .before .snapped .given .1 in
-    (k .0, k .1, whole-in-range (c .before .before .before .before .before .before .before .before .before .before .before .before .args .shape) e, c .before .before .before .before .before .if1 .left)
+    let w = c .before .before .before in
+    let a = w .before .before .before .before .before in
+    let k = told-sound (a .audited .given .1) (a .before .before .audit .ensures) in
+    let e = sym (w .before .before .snap-shape .ensures) ∙ w .snapped .given .1 in
+    (k .0, k .1, whole-in-range (a .before .before .before .before .before .args .shape) e, w .before .before .before .if1 .left, omega arith)
 
 same-length-4 : tie.Need-same-length-4
 same-length-4 c = search needs
 
 returns-4 : tie.Need-returns-4
 returns-4 c =
-    let k = told-sound (c .before .before .before .before .before .before .before .before .before .before .audited .given .1) (c .before .before .before .before .before .before .before .before .before .before .before .before .audit .ensures) in
-    placed (k .0) (c .before .before .before .before .before .before .before .before .if1 .left) _ (sym (c .before .before .before .before .before .before .before .snap-shape .ensures) ∙ c .before .before .before .before .before .snapped .given .1) (c .before .before .place .ensures)
+    let w = c .before .before .before .before .before .before .before in
+    let a = w .before .before .before .before .before in
+    let k = told-sound (a .audited .given .1) (a .before .before .audit .ensures) in
+    placed (k .0) (w .before .before .before .if1 .left) _ (sym (w .before .before .snap-shape .ensures) ∙ w .snapped .given .1) (c .before .before .before .place .ensures)
 
 pub bin-pixels-spec : {M : Type 1} → statement M
 bin-pixels-spec =
@@ -94,6 +102,7 @@ bin-pixels-spec =
     refused-bin-requires-3
     same-length-3
     returns-3
+    slice-aggregate-place
     place-requires
     same-length-4
     returns-4)

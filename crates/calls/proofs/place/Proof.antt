@@ -1,42 +1,35 @@
 -- `calls::place` meets its contract. The touched tiles are one list without a tile twice, so that `lists` counts and appends by it.
+use mathlib.Core.Path.{_≡_, refl, sym, ap, ap₂, _∙_}
 use Prim.Native.Nat.{ℕ}
+use native.Mathlib.Omega.{arith}
 use lib.ListN.{take}
-use Rattle.pool.specs.Words.{Layout}
+use borrow.Author.Needs.{needs}
+use Rattle.pool.specs.Words.{Layout, layoutOf}
 use Rattle.pool.specs.Editions.{layoutFor}
 use Rattle.lists.specs.Appending.{need, appendAll}
-use mathlib.Core.Path.{_≡_, refl, sym, ap, ap₂, _∙_}
-use native.Mathlib.Omega.{arith}
 use Rattle.calls.specs.Tables.{no-room, done}
 use Rattle.calls.proofs.Audits.{carried-sound, carried-sized}
 use Rattle.calls.proofs.Placing.{screen-allowed, touched-here, as-many, all-among}
-use borrow.Author.Needs.{needs}
 use Rattle.calls.proofs.place.Statement.{statement}
 use Rattle.calls.proofs.place.Tie as tie
 
-slice-aggregate-touched-tiles : tie.Need-slice-aggregate-touched-tiles
-slice-aggregate-touched-tiles c = search needs
-
 touched-tiles-requires : tie.Need-touched-tiles-requires
-touched-tiles-requires c κs = let s = c .before .before in (screen-allowed (s .pre .0) (s .pre .1), s .pre .2, omega arith)
+touched-tiles-requires c κs = let s = c .before .before .before in (screen-allowed (s .pre .0) (s .pre .1), s .pre .2, s .pre .4)
 
 wide-requires : tie.Need-wide-requires
 wide-requires c κs = search needs
-
-slice-aggregate-need : tie.Need-slice-aggregate-need
-slice-aggregate-need c = search needs
 
 wide-requires-2 : tie.Need-wide-requires-2
 wide-requires-2 c κs = search needs
 
 need-requires : tie.Need-need-requires
 need-requires c κs =
-    let s = c .before .before .before .before .before .before .before .before in
-    all-among (s .pre .0) (s .pre .1) (c .before .before .before .before .before .touched-tiles .ensures) (omega arith) (c .before .before .before .wide .ensures) (c .wide2 .ensures)
+    let w = c .before .before .before .before .before .before in
+    let s = w .before .before .before .before in
+    all-among (s .pre .0) (s .pre .1) (w .touched-tiles .ensures) (s .pre .4) (c .before .before .before .wide .ensures) (c .wide2 .ensures)
 
 free-requires : tie.Need-free-requires
-free-requires c κs =
-    let s = c .before .before .before .before .before .before .before .before .before .before in
-    (carried-sound (s .pre .0, s .pre .1), carried-sized (s .pre .0, s .pre .1))
+free-requires c κs = let s = c .before .before .before .before .before .before .before .before .before .before .before .before in (carried-sound (s .pre .0, s .pre .1), carried-sized (s .pre .0, s .pre .1))
 
 wide-requires-3 : tie.Need-wide-requires-3
 wide-requires-3 c κs = search needs
@@ -47,66 +40,71 @@ refused-bin-requires c κs = search needs
 same-length : tie.Need-same-length
 same-length c = search needs
 
+same-length-2 : tie.Need-same-length-2
+same-length-2 c = search needs
+
 returns : tie.Need-returns
 returns c =
-    let s = c .before .before .before .before .before .before .before .before .before .before .before .before .before .before in
-    let w = c .before .before .before .before .before .before .before .before .before .before .before .touched-tiles in
-    let e = c .before .before .before .before .before .need .ensures ∙ ap₂ (λ (L : Layout) (k : ℕ). need L (s .args .pool .now) (take k (w .last .1 .1 .0))) (s .pre .1 .layout) (c .before .before .before .before .before .before .wide2 .ensures) in
-    no-room _ (touched-here (s .pre .0) (s .pre .1) (w .ensures)) (omega (arith, e, c .before .before .wide3 .ensures, c .before .before .before .free .ensures)) (c .refused-bin .ensures) refl
-
-slice-aggregate-append-all : tie.Need-slice-aggregate-append-all
-slice-aggregate-append-all c = search needs
+    let n = c .before .before .before .before .before in
+    let w = n .before .before .before .before .before .before .before in
+    let s = w .before .before .before .before in
+    let e = n .need .ensures ∙ ap₂ (λ (L : Layout) (k : ℕ). need L (s .args .pool .now) (take k (w .touched-tiles .last .1 .1 .0))) (s .pre .1 .layout) (n .before .wide2 .ensures) in
+    no-room _ (touched-here (s .pre .0) (s .pre .1) (w .touched-tiles .ensures)) (omega (arith, e, c .before .before .wide3 .ensures, c .before .before .before .free .ensures)) (c .refused-bin .ensures) refl
 
 wide-requires-4 : tie.Need-wide-requires-4
 wide-requires-4 c κs = search needs
 
 append-all-requires : tie.Need-append-all-requires
 append-all-requires c κs =
-    let s = c .before .before .before .before .before .before .before .before .before .before .before .before .before .before .before .before in
-    let w = c .before .before .before .before .before .before .before .before .before .before .before .before .before .touched-tiles in
-    let a = all-among (s .pre .0) (s .pre .1) (w .ensures) (omega arith) (c .before .before .before .before .before .before .before .before .before .before .before .wide .ensures) (c .wide4 .ensures) in
+    let n = c .before .before .before .before .before .before .before in
+    let w = n .before .before .before .before .before .before .before in
+    let s = w .before .before .before .before in
+    let a = all-among (s .pre .0) (s .pre .1) (w .touched-tiles .ensures) (s .pre .4) (n .before .before .before .before .wide .ensures) (c .wide4 .ensures) in
     let e =
-    c .before .before .before .before .before .before .before .need .ensures
-    ∙ ap (λ (k : ℕ). need (layoutFor (s .args .header .layout)) (s .args .pool .now) (take k (w .last .1 .1 .0))) (c .before .before .before .before .before .before .before .before .wide2 .ensures ∙ sym (c .wide4 .ensures)) in
+    n .need .ensures
+    ∙ ap (λ (k : ℕ). need (layoutFor (s .args .header .layout)) (s .args .pool .now) (take k (w .touched-tiles .last .1 .1 .0))) (n .before .wide2 .ensures ∙ sym (c .wide4 .ensures)) in
     (a .0, record { among = a .1; in-range = s .pre .3; enough = omega (arith, e, c .before .before .before .before .wide3 .ensures, c .before .before .before .before .before .free .ensures) })
 
 narrow-requires : tie.Need-narrow-requires
 narrow-requires c κs = search needs
 
-same-length-2 : tie.Need-same-length-2
-same-length-2 c = search needs
+same-length-3 : tie.Need-same-length-3
+same-length-3 c = search needs
+
+same-length-4 : tie.Need-same-length-4
+same-length-4 c = search needs
 
 returns-2 : tie.Need-returns-2
 returns-2 c =
-    let s = c .before .before .before .before .before .before .before .before .before .before .before .before .before .before .before .before .before .before .before .before in
+    let n = c .before .before .before .before .before .before .before .before .before .before .before in
+    let w = n .before .before .before .before .before .before .before in
+    let s = w .before .before .before .before in
     let p = s .args .pool .now in
-    let w = c .before .before .before .before .before .before .before .before .before .before .before .before .before .before .before .before .before .touched-tiles in
-    let new = w .last .1 .1 .0 in
-    let e = c .before .before .before .before .before .before .before .before .before .before .before .need .ensures ∙ ap₂ (λ (L : Layout) (k : ℕ). need L p (take k new)) (s .pre .1 .layout) (c .before .before .before .before .before .before .before .before .before .before .before .before .wide2 .ensures) in
-    let t = c .before .before .before .before .before .before .before .before .before .before .before .before .before .before .before .wide .ensures ∙ s .pre .1 .tiles in
+    let new = w .touched-tiles .last .1 .1 .0 in
+    let e = n .need .ensures ∙ ap₂ (λ (L : Layout) (k : ℕ). need L p (take k new)) (s .pre .1 .layout) (n .before .wide2 .ensures) in
+    let t = n .before .before .before .before .wide .ensures ∙ s .pre .1 .tiles in
     let k = c .before .before .before .before .wide4 .ensures in
-    done (take (w .result) new) (touched-here (s .pre .0) (s .pre .1) (w .ensures)) (omega (arith, e, c .before .before .before .before .before .before .before .before .wide3 .ensures, c .before .before .before .before .before .before .before .before .before .free .ensures))
-    (λ i. record { number = 0; tiles = sym (as-many (s .pre .0) (s .pre .1) (w .ensures) (omega arith)) i; blocks = (c .narrow .ensures ∙ e) i })
+    done (take (w .touched-tiles .result) new) (touched-here (s .pre .0) (s .pre .1) (w .touched-tiles .ensures)) (omega (arith, e, c .before .before .before .before .before .before .before .if1 .left, c .before .before .before .before .before .before .before .before .wide3 .ensures, c .before .before .before .before .before .before .before .before .before .free .ensures))
+    (λ i. record { number = 0; tiles = sym (as-many (s .pre .0) (s .pre .1) (w .touched-tiles .ensures) (s .pre .4)) i; blocks = (c .narrow .ensures ∙ e) i })
     (c .before .before .before .append-all .ensures ∙ (λ i. appendAll (s .pre .1 .layout i) (t i) p (take (k i) new) (s .args .id)))
 
 pub place-spec : {M : Type 1} → statement M
 place-spec =
     tie.close
     (tie.spec
-    slice-aggregate-touched-tiles
     touched-tiles-requires
     wide-requires
-    slice-aggregate-need
     wide-requires-2
     need-requires
     free-requires
     wide-requires-3
     refused-bin-requires
     same-length
+    same-length-2
     returns
-    slice-aggregate-append-all
     wide-requires-4
     append-all-requires
     narrow-requires
-    same-length-2
+    same-length-3
+    same-length-4
     returns-2)

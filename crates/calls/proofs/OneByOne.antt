@@ -11,7 +11,7 @@ use Rattle.shapes.specs.Shapes.{shapeAt}
 use Rattle.audit.specs.declared.Header.{Header}
 use Rattle.calls.specs.declared.Binned.{Binned}
 use Rattle.calls.specs.Tables.{PlaceSays, BinSays}
-use Rattle.calls.specs.BinList.{idAt, OneByOne}
+use Rattle.calls.specs.BinList.{idAt, BinNumber, OneByOne}
 use Rattle.calls.proofs.Keeping.{Told, bin-keeps}
 
 module _ {p : List ℕ} {shape : Shape} {id : ℕ} {a : Binned} {q : List ℕ} where
@@ -19,11 +19,14 @@ module _ {p : List ℕ} {shape : Shape} {id : ℕ} {a : Binned} {q : List ℕ} w
   place-number (PlaceSays.no-room ts T l e f) = omega (arith, ap (λ (b : Binned). b .number) e)
   place-number (PlaceSays.done ts T l e f) = omega (arith, ap (λ (b : Binned). b .number) e)
 
-  pub bin-number : BinSays p shape id a q → a .number ≤ 8
+  bin-number : BinSays p shape id a q → a .number ≤ 8
   bin-number (BinSays.damaged n e f) = omega (arith, ap (λ (b : Binned). b .number) e)
   bin-number (BinSays.bad-id S i e f) = omega (arith, ap (λ (b : Binned). b .number) e)
   bin-number (BinSays.out-of-range S i o e f) = omega (arith, ap (λ (b : Binned). b .number) e)
   bin-number (BinSays.placed S i o w) = place-number w
+
+pub in-a-byte : {p : List ℕ} {shape : Shape} {id number : ℕ} {q : List ℕ} → BinNumber p shape id number q → number ≤ 8
+in-a-byte B = omega (arith, B .is, bin-number (B .says))
 
 -- only the bytes of the shapes themselves matter
 same-bytes : (ws : List ℤ) (bytes others p : List ℕ) (n : ℕ) (q : List ℕ) → ((k : ℕ) → k < n → getD others k 0 ≡ getD bytes k 0)
@@ -32,7 +35,7 @@ same-bytes ws bytes others p zero q e o = o
 same-bytes ws bytes others p (suc n) q e o = (
   o .0,
   same-bytes ws bytes others p n (o .0) (λ k h. e k (omega arith)) (o .1),
-  record { answer = o .2 .answer; says = o .2 .says; byte = e n (omega arith) ∙ o .2 .byte },
+  record { answer = o .2 .answer; says = o .2 .says; is = e n (omega arith) ∙ o .2 .is },
 )
 
 module _ (h : Header) (ws : List ℤ) (old p : List ℕ) where
@@ -46,17 +49,17 @@ module _ (h : Header) (ws : List ℤ) (old p : List ℕ) where
   pub along-none : Told h p → Along 0 old p
   along-none k = record { told = k; each = refl; long = refl; past = λ i l. refl }
 
-  pub along-more : {n : ℕ} {bytes m q : List ℕ} {a : Binned} → Along n bytes m → n < length bytes → BinSays m (shapeAt 8 ws n) (idAt ws n) a q
-      → Along (n + 1) (set bytes n (a .number)) q
-  along-more {n} {bytes} {m} {q} {a} A l B =
+  pub along-more : {n : ℕ} {bytes m q : List ℕ} {number : ℕ} → Along n bytes m → n < length bytes → BinNumber m (shapeAt 8 ws n) (idAt ws n) number q
+      → Along (n + 1) (set bytes n number) q
+  along-more {n} {bytes} {m} {q} {number} A l B =
       let e : suc n ≡ n + 1 = omega arith in
       record {
-        told = bin-keeps (A .told) B;
-        each = subst (λ (k : ℕ). OneByOne ws (set bytes n (a .number)) k p q) e (
+        told = bin-keeps (A .told) (B .says);
+        each = subst (λ (k : ℕ). OneByOne ws (set bytes n number) k p q) e (
           m,
-          same-bytes ws bytes (set bytes n (a .number)) p n m (λ k b. getD-set-other bytes n k (a .number) 0 (λ d. omega arith)) (A .each),
-          record { answer = a; says = B; byte = getD-set-same bytes n (a .number) 0 l },
+          same-bytes ws bytes (set bytes n number) p n m (λ k b. getD-set-other bytes n k number 0 (λ d. omega arith)) (A .each),
+          record { answer = B .answer; says = B .says; is = getD-set-same bytes n number 0 l ∙ B .is },
         );
-        long = length-set bytes n (a .number) ∙ A .long;
-        past = λ i b. getD-set-other bytes n i (a .number) 0 (λ d. omega arith) ∙ A .past i (omega arith);
+        long = length-set bytes n number ∙ A .long;
+        past = λ i b. getD-set-other bytes n i number 0 (λ d. omega arith) ∙ A .past i (omega arith);
       }

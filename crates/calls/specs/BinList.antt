@@ -5,6 +5,7 @@ use mathlib.Core.List.{List}
 use Prim.Native.Nat.{ℕ, zero, suc, _≤_, _<_}
 use lib.IntN.{ℤ, pos, negsuc}
 use lib.ListN.{length, getD}
+use Rattle.shape.specs.declared.Shape.{Shape}
 use Rattle.shapes.specs.Shapes.{RightList, countOf, wordsAt, shapeAt}
 use Rattle.pool.specs.Words.{edition, layoutOf}
 use Rattle.pool.specs.Sound.{Sound}
@@ -23,17 +24,17 @@ idAt ws place = idFrom (wordsAt 8 ws place 7)
 
 -- ---- one by one
 
--- the shape at a place of the list ws, with its id, is binned on the words p as the table of the single bin says, which leaves the words q; and the byte
--- at that place is the number of the answer
-pub record BinnedAt (ws : List ℤ) (bytes : List ℕ) (place : ℕ) (p q : List ℕ) : Type 0 where
+-- a shape is binned on the words p, as the table of the single bin says, which leaves the words q; the answer has that number
+pub record BinNumber (p : List ℕ) (shape : Shape) (id number : ℕ) (q : List ℕ) : Type 0 where
   pub answer : Binned
-  pub says : BinSays p (shapeAt 8 ws place) (idAt ws place) answer q
-  pub byte : getD bytes place 0 ≡ answer .number
+  pub says : BinSays p shape id answer q
+  pub is : number ≡ answer .number
 
--- the first n shapes of the list, each binned on what the one before it left, lead from the words p to the words q
+-- the first n shapes of the list ws, each binned with its id on what the one before it left, lead from the words p to the words q; and the byte at the
+-- place of each is the number of its answer
 abbrev pub OneByOne : List ℤ → (bytes : List ℕ) (n : ℕ) (p q : List ℕ) → Type 0
 OneByOne ws bytes zero p q = q ≡ p
-OneByOne ws bytes (suc n) p q = (m : List ℕ) × OneByOne ws bytes n p m × BinnedAt ws bytes n m q
+OneByOne ws bytes (suc n) p q = (m : List ℕ) × OneByOne ws bytes n p m × BinNumber m (shapeAt 8 ws n) (idAt ws n) (getD bytes n 0) q
 
 -- so all shapes of the list; and the bytes past them are as they were
 pub record AllBinned (ws : List ℤ) (old new p q : List ℕ) : Type 0 where

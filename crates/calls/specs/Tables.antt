@@ -56,6 +56,12 @@ pub data BinSays (p : List ℕ) (shape : Shape) (id : ℕ) (a : Binned) (q : Lis
   out-of-range : Sound (layoutOf p) p → id < edition .limit → (InRange shape → ⊥) → a ≡ refusedBin 7 → q ≡ p → BinSays p shape id a q
   placed : Sound (layoutOf p) p → id < edition .limit → InRange shape → PlaceSays p shape id a q → BinSays p shape id a q
 
+-- the number that the id and the shape alone decide: 5, then 7, or 0 for neither
+pub data CauseSays (shape : Shape) (id number : ℕ) : Type 0 where
+  bad-id : edition .limit ≤ id → number ≡ 5 → CauseSays shape id number
+  out-of-range : id < edition .limit → (InRange shape → ⊥) → number ≡ 7 → CauseSays shape id number
+  neither : id < edition .limit → InRange shape → number ≡ 0 → CauseSays shape id number
+
 -- bin of a shape in pixels: 4, 5, then 6 or 7 as the first offence decides, then 8
 pub data BinPixelsSays (p : List ℕ) (shape : PixelShape) (id : ℕ) (a : Binned) (q : List ℕ) : Type 0 where
   damaged : (Sound (layoutOf p) p → ⊥) → a ≡ refusedBin 4 → q ≡ p → BinPixelsSays p shape id a q

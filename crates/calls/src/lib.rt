@@ -19,11 +19,11 @@ ghost use Rattle.pool.specs.Sound.{Sound};
 ghost use Rattle.pool.specs.Opening.{OpenSays};
 ghost use Rattle.shape.specs.Shape.{InRange};
 ghost use Rattle.audit.specs.Answer.{HeaderOf};
-ghost use Rattle.calls.specs.Tables.{AuditSays, refusedBin, PlaceSays, BinSays, BinPixelsSays, ReadSays, HighWaterSays, ReleaseSays};
+ghost use Rattle.calls.specs.Tables.{AuditSays, refusedBin, PlaceSays, CauseSays, BinSays, BinPixelsSays, ReadSays, HighWaterSays, ReleaseSays};
 ghost use Prim.Native.Nat.{_≤_, _<_};
 ghost use lib.ListN.{length};
 ghost use Rattle.shapes.specs.Shapes.{RightList, countOf};
-ghost use Rattle.calls.specs.BinList.{idFrom, AllBinned, BinListSays};
+ghost use Rattle.calls.specs.BinList.{idFrom, BinNumber, AllBinned, BinListSays};
 ghost use Rattle.calls.specs.Questions.{QuestionSays, notAsked, BoxSays, CornerSays};
 ghost use Rattle.calls.specs.Units.{UnitSays};
 ghost use Rattle.calls.specs.Overlaps.{notCounted, OverlapsSays};
@@ -130,18 +130,17 @@ fn place(pool: &mut [u32], header: Header, shape: Shape, id: u32, touched: &mut 
     }
 }
 
-// Bins a whole-number shape on a sound pool: 0, the tiles listed and the blocks taken; or 5, 7, 8 in that order. `touched` is lent for the tiles.
-fn bin_sound(pool: &mut [u32], header: Header, shape: Shape, id: u32, touched: &mut [u32]) -> Binned
-    requires { ⌜ (Sound (layoutOf (now pool)) (now pool)) × (HeaderOf (layoutOf (now pool)) (now pool) header) × (4096 ≤ length (now touched)) ⌝ }
-    ensures { λ r. ⌜ BinSays (now (pool .entry)) shape id r (now (pool .exit)) ⌝ }
+// The number that a bin of the shape is refused with whatever the pool: 5 for the id, then 7 for the shape; or 0 for neither.
+fn cause(shape: Shape, id: u32) -> u32
+    ensures { λ r. ⌜ CauseSays shape id r ⌝ }
 {
     if pool::ID_LIMIT <= id {
-        return refused_bin(5);
+        return 5;
     }
     if !shape::in_range(shape) {
-        return refused_bin(7);
+        return 7;
     }
-    place(pool, header, shape, id, touched)
+    0
 }
 
 // Bins a whole-number shape: 0, the tiles listed and the blocks taken; or 4, 5, 7, 8 in that order.
@@ -152,8 +151,12 @@ pub fn bin(pool: &mut [u32], shape: Shape, id: u32) -> Binned
     let Audited::Sound(header) = audited else {
         return refused_bin(4);
     };
+    let number = cause(shape, id);
+    if number != 0 {
+        return refused_bin(number);
+    }
     let mut touched = [0u32; 4096];
-    bin_sound(pool, header, shape, id, &mut touched)
+    place(pool, header, shape, id, &mut touched)
 }
 
 // Bins a shape in pixels: 0, the tiles listed and the blocks taken; or 4, 5, then 6 or 7 as its first offence decides, then 8.
@@ -185,6 +188,19 @@ fn id_from(word: i32) -> u32
     word as u32
 }
 
+// Bins a whole-number shape on a sound pool, as `bin` does, and answers its number alone: 0, or 5, 7, 8 in that order. `touched` is lent for the tiles.
+fn bin_sound(pool: &mut [u32], header: Header, shape: Shape, id: u32, touched: &mut [u32]) -> u32
+    requires { ⌜ (Sound (layoutOf (now pool)) (now pool)) × (HeaderOf (layoutOf (now pool)) (now pool) header) × (4096 ≤ length (now touched)) ⌝ }
+    ensures { λ r. ⌜ BinNumber (now (pool .entry)) shape id r (now (pool .exit)) ⌝ }
+{
+    let number = cause(shape, id);
+    if number != 0 {
+        return number;
+    }
+    let binned = place(pool, header, shape, id, touched);
+    binned.number
+}
+
 // Bins the shapes of a right list one after the other on a sound pool, and writes the number of each one's answer to the byte at its place. `touched` is
 // lent for the tiles.
 fn bin_all(pool: &mut [u32], header: Header, list: &[i32], answers: &mut [u8], touched: &mut [u32])
@@ -197,8 +213,8 @@ fn bin_all(pool: &mut [u32], header: Header, list: &[i32], answers: &mut [u8], t
     while at < words {
         let shape = shapes::shape_at(list, at);
         let id = id_from(list[at + shapes::WORDS]);
-        let binned = bin_sound(pool, header, shape, id, touched);
-        answers[place] = binned.number as u8;
+        let number = bin_sound(pool, header, shape, id, touched);
+        answers[place] = number as u8;
         place += 1;
         at += NAMED_WORDS;
     }

@@ -83,7 +83,7 @@ bytes-among : (ws : List ℤ) (bytes p : List ℕ) → Sound (layoutOf p) p → 
 bytes-among ws bytes p S zero q o k h = absurd (omega arith)
 bytes-among ws bytes p S (suc n) q o k h =
     let M = run-stays p (singles ws bytes n p (o .0) (o .1)) (o .0) S (singles-run ws bytes n p (o .0) (o .1)) in
-    let last : Among (getD bytes n 0) (0 ∷ 5 ∷ 7 ∷ 8 ∷ []) = subst (λ (m : ℕ). Among m (0 ∷ 5 ∷ 7 ∷ 8 ∷ [])) (sym (o .2 .byte)) (answer-among (M .sound) (o .2 .says)) in
+    let last : Among (getD bytes n 0) (0 ∷ 5 ∷ 7 ∷ 8 ∷ []) = subst (λ (m : ℕ). Among m (0 ∷ 5 ∷ 7 ∷ 8 ∷ [])) (sym (o .2 .is)) (answer-among (M .sound) (o .2 .says)) in
     ⊎-elim
     (λ (l : k < n). bytes-among ws bytes p S n (o .0) (o .1) k l)
     (λ (e : k ≡ n). subst (λ (j : ℕ). Among (getD bytes j 0) (0 ∷ 5 ∷ 7 ∷ 8 ∷ [])) (sym e) last)
@@ -140,7 +140,7 @@ one-by-one-once ws b c p zero q r o u = (o ∙ sym u, λ k h. absurd (omega arit
 one-by-one-once ws b c p (suc n) q r o u =
     let before = one-by-one-once ws b c p n (o .0) (u .0) (o .1) (u .1) in
     let one = bin-one-outcome (o .2 .says) (subst (λ (m : List ℕ). BinSays m (shapeAt 8 ws n) (idAt ws n) (u .2 .answer) r) (sym (before .0)) (u .2 .says)) in
-    let last : getD b n 0 ≡ getD c n 0 = o .2 .byte ∙ ap (λ (a : Binned). a .number) (one .0) ∙ sym (u .2 .byte) in
+    let last : getD b n 0 ≡ getD c n 0 = o .2 .is ∙ ap (λ (a : Binned). a .number) (one .0) ∙ sym (u .2 .is) in
     (one .1, λ k h. ⊎-elim (λ (l : k < n). before .1 k l) (λ (e : k ≡ n). subst (λ (j : ℕ). getD b j 0 ≡ getD c j 0) (sym e) last) (below-or-last k n h))
 
 all-binned-once : {ws : List ℤ} {old b c p q r : List ℕ} → AllBinned ws old b p q → AllBinned ws old c p r → (q ≡ r) × (b ≡ c)
@@ -183,7 +183,7 @@ one-by-one-follows {w = w} ws bytes S zero q o = (w, refl, subst (λ (x : List �
 one-by-one-follows ws bytes S (suc n) q o =
     let F = one-by-one-follows ws bytes S n (o .0) (o .1) in
     let G = bin-follows (F .2) (o .2 .says) in
-    (G .0, (F .0, F .1, record { answer = o .2 .answer; says = G .1; byte = o .2 .byte }), G .2)
+    (G .0, (F .0, F .1, record { answer = o .2 .answer; says = G .1; is = o .2 .is }), G .2)
 
 list-follows : {p w : List ℕ} {ws : List ℤ} {old : List ℕ} {a : ℕ} {q new : List ℕ} → SameRoom p w → BinListSays p ws old a q new
     → (v : List ℕ) × BinListSays w ws old a v new × SameRoom q v

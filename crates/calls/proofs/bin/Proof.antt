@@ -1,9 +1,10 @@
--- `calls::bin` meets its contract: the audit tells the first row of the table, or a header, with which the shape is binned.
+-- `calls::bin` meets its contract: each test tells a row of the table, or that its cause does not apply.
 use mathlib.Core.Path.{refl}
 use native.Mathlib.Omega.{arith}
 use borrow.Author.Needs.{needs}
-use Rattle.calls.specs.Tables.{damaged}
+use Rattle.calls.specs.Tables.{BinSays}
 use Rattle.calls.proofs.Audits.{told-damaged, told-sound}
+use Rattle.calls.proofs.Causes.{refused-says, neither-says}
 use Rattle.calls.proofs.bin.Statement.{statement}
 use Rattle.calls.proofs.bin.Tie as tie
 
@@ -23,19 +24,42 @@ same-length : tie.Need-same-length
 same-length c = search needs
 
 returns : tie.Need-returns
-returns c = damaged (told-damaged (c .before .enum-told .given .1) (c .before .before .before .audit .ensures)) (c .refused-bin .ensures) refl
+returns c = BinSays.damaged (told-damaged (c .before .enum-told .given .1) (c .before .before .before .audit .ensures)) (c .refused-bin .ensures) refl
 
-slice-aggregate-bin-sound : tie.Need-slice-aggregate-bin-sound
-slice-aggregate-bin-sound c = search needs
+cause-requires : tie.Need-cause-requires
+cause-requires c κs = search needs
 
-bin-sound-requires : tie.Need-bin-sound-requires
-bin-sound-requires c κs = let a = c .before .before .before in let k = told-sound (a .audited .given .1) (a .before .before .audit .ensures) in (k .0, k .1, omega arith)
+refused-bin-requires-2 : tie.Need-refused-bin-requires-2
+refused-bin-requires-2 c κs = search needs
 
 same-length-2 : tie.Need-same-length-2
 same-length-2 c = search needs
 
 returns-2 : tie.Need-returns-2
-returns-2 c = c .before .before .before .bin-sound .ensures
+returns-2 c =
+    let a = c .before .before .before .before in
+    refused-says (told-sound (a .audited .given .1) (a .before .before .audit .ensures) .0) (c .before .before .cause .ensures) (c .before .if1 .taken) (c .refused-bin2 .ensures) refl
+
+slice-aggregate-place : tie.Need-slice-aggregate-place
+slice-aggregate-place c = search needs
+
+place-requires : tie.Need-place-requires
+place-requires c κs =
+    let t = c .before .before in
+    let a = t .before .before .before in
+    let k = told-sound (a .audited .given .1) (a .before .before .audit .ensures) in
+    let n = neither-says (t .before .cause .ensures) (t .if1 .left) in
+    (k .0, k .1, n .1, n .0, omega arith)
+
+same-length-3 : tie.Need-same-length-3
+same-length-3 c = search needs
+
+returns-3 : tie.Need-returns-3
+returns-3 c =
+    let t = c .before .before .before .before .before .before in
+    let a = t .before .before .before in
+    let n = neither-says (t .before .cause .ensures) (t .if1 .left) in
+    BinSays.placed (told-sound (a .audited .given .1) (a .before .before .audit .ensures) .0) (n .0) (n .1) (c .before .before .before .place .ensures)
 
 pub bin-spec : {M : Type 1} → statement M
 bin-spec =
@@ -47,7 +71,11 @@ bin-spec =
     refused-bin-requires
     same-length
     returns
-    slice-aggregate-bin-sound
-    bin-sound-requires
+    cause-requires
+    refused-bin-requires-2
     same-length-2
-    returns-2)
+    returns-2
+    slice-aggregate-place
+    place-requires
+    same-length-3
+    returns-3)

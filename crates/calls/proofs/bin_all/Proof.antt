@@ -10,9 +10,8 @@ use mir.Syntax.{w32}
 use Rattle.numbers.proofs.Is.{kept-is}
 use Rattle.shapes.specs.Shapes.{countOf, wordsFrom, shapeFrom}
 use Rattle.shapes.proofs.Words.{place-room}
-use Rattle.calls.specs.Tables.{BinSays}
-use Rattle.calls.specs.BinList.{idFrom, OneByOne}
-use Rattle.calls.proofs.OneByOne.{bin-number, Along, along-none, along-more}
+use Rattle.calls.specs.BinList.{idFrom, BinNumber, OneByOne}
+use Rattle.calls.proofs.OneByOne.{in-a-byte, Along, along-none, along-more}
 use Rattle.calls.proofs.bin_all.Statement.{statement}
 use Rattle.calls.proofs.bin_all.Tie as tie
 
@@ -60,30 +59,30 @@ bin-sound-requires c κs =
     (l .inv .4 .told .0, l .inv .4 .told .1, omega (arith, l .inv .3, s .pre .4))
 
 cast-answers : tie.Need-cast-answers Inv-loop μ-loop
-cast-answers c = omega (arith, bin-number (c .before .before .before .before .before .bin-sound .ensures))
+cast-answers c = omega (arith, in-a-byte (c .before .before .before .before .bin-sound .ensures))
 
 slice-write-answers : tie.Need-slice-write-answers Inv-loop μ-loop
-slice-write-answers c = let t = c .before .before .before .before .before .before .before .before .before .before .before in omega (arith, in-list t, t .before .before .before .before .before .pre .3, t .before .loop .inv .4 .long)
+slice-write-answers c = let t = c .before .before .before .before .before .before .before .before .before .before in omega (arith, in-list t, t .before .before .before .before .before .pre .3, t .before .loop .inv .4 .long)
 
 add-place : tie.Need-add-place Inv-loop μ-loop
-add-place c = omega (arith, few (c .before .before .before .before .before .before .before .before .before .before .before))
+add-place c = omega (arith, few (c .before .before .before .before .before .before .before .before .before .before))
 
 add-at : tie.Need-add-at Inv-loop μ-loop
-add-at c = let t = c .before .before .before .before .before .before .before .before .before .before .before in omega (arith, t .before .loop .inv .0, few t)
+add-at c = let t = c .before .before .before .before .before .before .before .before .before .before in omega (arith, t .before .loop .inv .0, few t)
 
 loop-less : tie.Need-loop-less Inv-loop μ-loop
-loop-less c = let t = c .before .before .before .before .before .before .before .before .before .before .before in omega (arith, t .loop-test .taken)
+loop-less c = let t = c .before .before .before .before .before .before .before .before .before .before in omega (arith, t .loop-test .taken)
 
 loop-again : tie.Need-loop-again Inv-loop μ-loop
 loop-again c =
-    let t = c .before .before .before .before .before .before .before .before .before .before .before in
+    let t = c .before .before .before .before .before .before .before .before .before .before in
     let l = t .before .loop in
     let s = t .before .before .before .before .before in
     let ws = s .args .list .now in
-    let b = c .before .before .before .before .before in
-    let shape = c .before .before .before .before .before .before .before .before .before .before .shape-at .ensures ∙ ap (λ (k : ℕ). shapeFrom (wordsFrom ws k)) (l .inv .0) in
-    let id = c .before .before .before .before .before .before .before .before .id-from .ensures ∙ ap idFrom (kept-is w32 (wordsFrom ws (l .at) 7) (c .before .before .before .before .before .before .before .before .before .id-from-arg .given)) ∙ ap (λ (k : ℕ). idFrom (wordsFrom ws k 7)) (l .inv .0) in
-    let says = subst (λ (P : Type 0). P) (λ i. BinSays (l .pool) (shape i) (id i) (b .bin-sound .result) (b .bin-sound .last .0)) (b .bin-sound .ensures) in (
+    let b = c .before .before .before .before in
+    let shape = c .before .before .before .before .before .before .before .before .before .shape-at .ensures ∙ ap (λ (k : ℕ). shapeFrom (wordsFrom ws k)) (l .inv .0) in
+    let id = c .before .before .before .before .before .before .before .id-from .ensures ∙ ap idFrom (kept-is w32 (wordsFrom ws (l .at) 7) (c .before .before .before .before .before .before .before .before .id-from-arg .given)) ∙ ap (λ (k : ℕ). idFrom (wordsFrom ws k 7)) (l .inv .0) in
+    let says = subst (λ (P : Type 0). P) (λ i. BinNumber (l .pool) (shape i) (id i) (b .bin-sound .result) (b .bin-sound .last .0)) (b .bin-sound .ensures) in (
       omega (arith, l .inv .0),
       omega (arith, in-list t),
       b .bin-sound .kept .0 ∙ l .inv .2,

@@ -29,7 +29,7 @@ ghost use Rattle.calls.specs.Units.{UnitSays};
 ghost use Rattle.calls.specs.Overlaps.{notCounted, OverlapsSays};
 
 // The words of a shape in a list that is binned: those that say it, and its id.
-const NAMED_WORDS: usize = 8;
+const BIN_WORDS: usize = 8;
 
 // What a bin answers: its number, the tiles listed and the blocks taken.
 pub struct Binned {
@@ -216,7 +216,7 @@ fn bin_all(pool: &mut [u32], header: Header, list: &[i32], answers: &mut [u8], t
         let number = bin_sound(pool, header, shape, id, touched);
         answers[place] = number as u8;
         place += 1;
-        at += NAMED_WORDS;
+        at += BIN_WORDS;
     }
 }
 
@@ -229,7 +229,7 @@ pub fn bin_list(pool: &mut [u32], list: &[i32], answers: &mut [u8]) -> u32
     let Audited::Sound(header) = audited else {
         return 4;
     };
-    let checked = shapes::check(list, NAMED_WORDS);
+    let checked = shapes::check(list, BIN_WORDS);
     let Checked::Right(count) = checked else {
         return 15;
     };

@@ -4,6 +4,7 @@ use mathlib.Core.List.{List}
 use Prim.Native.Nat.{ℕ, _*_, _≤_, _<_}
 use native.Mathlib.Nat.{mul-le-mul-left}
 use native.Mathlib.Omega.{arith}
+use lib.IntN.{ℤ}
 use Rattle.screen.specs.Screen.{columns, rows}
 use Rattle.screen.proofs.Laws.{columns≥, rows≥}
 use Rattle.pool.specs.Words.{Layout, edition, layoutOf, start}
@@ -14,6 +15,7 @@ use Rattle.calls.specs.declared.Released.{Released}
 use Rattle.calls.specs.declared.Found.{Found}
 use Rattle.calls.specs.declared.HighWater.{HighWater}
 use Rattle.calls.specs.Tables.{AuditSays, BinSays, BinPixelsSays, ReadSays, HighWaterSays, ReleaseSays}
+use Rattle.calls.specs.BinList.{BinListSays}
 use Rattle.demands.specs.History.{Entry, binned, binned-pixels, found, released, numberOf, Step}
 use Rattle.demands.specs.OldLayout.{unmarked, OldLayoutAnswers4}
 
@@ -36,6 +38,12 @@ module _ {p : List ℕ} (n : Sound (layoutOf p) p → ⊥) where
   high-water-4 (HighWaterSays.no-tile S h e) = absurd (n S)
   high-water-4 (HighWaterSays.done S h e) = absurd (n S)
 
+  list-4 : {ws : List ℤ} {old : List ℕ} {number : ℕ} {q new : List ℕ} → BinListSays p ws old number q new → number ≡ 4
+  list-4 (BinListSays.damaged d e f g) = e
+  list-4 (BinListSays.bad-list S d e f g) = absurd (n S)
+  list-4 (BinListSays.too-few S r l e f g) = absurd (n S)
+  list-4 (BinListSays.done S r l e b) = absurd (n S)
+
   step-4 : (e : Entry) (q : List ℕ) → Step p e q → numberOf e ≡ 4
   step-4 (binned shape id a) q (BinSays.damaged d e f) = ap (λ (b : Binned). b .number) e
   step-4 (binned shape id a) q (BinSays.bad-id S i e f) = absurd (n S)
@@ -56,4 +64,4 @@ module _ {p : List ℕ} (n : Sound (layoutOf p) p → ⊥) where
 pub old-layout-answers-4 : OldLayoutAnswers4
 old-layout-answers-4 p O =
     let n = old-unsound O in
-    record { audit = λ number A. audit-4 n A; step = step-4 n; high-water = λ t a H. high-water-4 n H }
+    record { audit = λ number A. audit-4 n A; step = step-4 n; list = λ ws old number q new B. list-4 n B; high-water = λ t a H. high-water-4 n H }

@@ -1,6 +1,6 @@
 /* Every call by include/flourscoop.h, from C or C++: document 01's pool case, one answer and one refusal of each, marks, and
-   the blocks that they ask for, all in both editions; tiles that the screen cuts; lists of shapes; the header's rooms, texts
-   and version. */
+   the blocks that they ask for, and draw calls, all in both editions; tiles that the screen cuts; lists of shapes; the
+   header's rooms, texts and version. */
 #include <float.h>
 #include <math.h>
 #include <stdio.h>
@@ -39,6 +39,27 @@ static const int32_t listed[LIST_WORDS] = {
     FLOURSCOOP_POINT, 1025, 10, 0, 0, 0, 0,
 };
 static const uint64_t listed_totals[7] = {4, 1, 22, 19, 3, 7, 2}, no_totals[7] = {0};
+
+/* The draw call of the header's example, its answers, and the list of each tile afterwards, whose ids are all above 0. */
+enum { DRAWN = 7, DRAWN_WORDS = DRAWN * FLOURSCOOP_BIN_WORDS, DRAWN_BLOCKS = 4, SPARE = 3 };
+enum { DRAW_ROOM = FLOURSCOOP_ROOM_TWO(WIDTH, HEIGHT, S, DRAWN_BLOCKS, 64) };
+static const int32_t drawn[DRAWN_WORDS] = {
+    FLOURSCOOP_POINT, 0, 0, 0, 0, 0, 0, 7,
+    FLOURSCOOP_TRIANGLE, 0, 0, 1024, 0, 0, 512, 8,
+    FLOURSCOOP_POINT, 256, 256, 0, 0, 0, 0, 9,
+    FLOURSCOOP_LINE, 0, 0, 512, 512, 0, 0, 10,
+    FLOURSCOOP_POINT, 5, 5, 0, 0, 0, 0, -1,
+    FLOURSCOOP_POINT, 5, 262144, 0, 0, 0, 0, 11,
+    FLOURSCOOP_LINE, 100, 100, 300, 100, 0, 0, 12,
+};
+static const uint8_t drawn_answers[DRAWN] = {FLOURSCOOP_DONE, FLOURSCOOP_NO_ROOM, FLOURSCOOP_DONE, FLOURSCOOP_NO_ROOM,
+                                             FLOURSCOOP_ID, FLOURSCOOP_OUT_OF_RANGE, FLOURSCOOP_DONE};
+static const uint32_t drawn_lists[8][4] = {{7, 9, 12}, {9, 12}, {0}, {0}, {9}, {9}, {0}, {0}};
+static uint32_t draw_pool[DRAW_ROOM], single_pool[DRAW_ROOM];
+static size_t draw_room;
+
+/* Points of tile 0, one more than a list may have. */
+static int32_t points[(FLOURSCOOP_MOST_SHAPES + 1) * FLOURSCOOP_BIN_WORDS];
 
 /* The totals of a call, with words beside each that it should leave. */
 struct totals {
@@ -116,6 +137,30 @@ static void keep_binned(void)
     blocks[layout->block_words - 1] = 0;
 }
 
+/* Bins a list, and counts its number and its answers, those of the draw call or none; all other bytes should stay. */
+static void expect_answers(const char *name, uint32_t *words, size_t length, const int32_t *list, size_t list_words,
+                           size_t answer_bytes, uint32_t wanted, const uint8_t *wanted_answers)
+{
+    uint8_t answers[DRAWN + SPARE], right[DRAWN + SPARE];
+    memset(answers, 0xAA, sizeof answers);
+    memset(right, 0xAA, sizeof right);
+    if (wanted_answers != NULL)
+        memcpy(right, wanted_answers, DRAWN);
+    expect(name, flourscoop_bin_list(words, length, list, list_words, answer_bytes == 0 ? NULL : answers, answer_bytes),
+           wanted, 0, 0);
+    expect_that(memcmp(answers, right, sizeof right) == 0, name);
+}
+
+/* Bins a list that should be refused with this number, and change no word and no byte. */
+static void expect_no_answers(const char *name, uint32_t *words, size_t length, const int32_t *list, size_t list_words,
+                              size_t answer_bytes, uint32_t wanted)
+{
+    static uint32_t before[DRAW_ROOM];
+    memcpy(before, draw_pool, sizeof before);
+    expect_answers(name, words, length, list, list_words, answer_bytes, wanted, NULL);
+    expect_that(memcmp(before, draw_pool, sizeof before) == 0, name);
+}
+
 /* Asks for a mark; zero is written where it is refused. */
 static void expect_mark(const uint32_t *words, size_t length, uint32_t tile, uint32_t wanted, uint32_t mark)
 {
@@ -131,6 +176,7 @@ static void expect_unsound(uint32_t *words, size_t length, const char *what)
     expect("audit", flourscoop_audit(words, length), FLOURSCOOP_UNSOUND, 0, 0);
     expect("bin", flourscoop_bin_point(words, length, 1, 0, 0, &value, &other), FLOURSCOOP_UNSOUND, 0, 0);
     expect("bin", flourscoop_bin_pixels_point(words, length, 1, 0, 0, &value, &other), FLOURSCOOP_UNSOUND, 0, 0);
+    expect_answers("bin_list", words, length, drawn, DRAWN_WORDS, DRAWN, FLOURSCOOP_UNSOUND, NULL);
     expect("read", flourscoop_read(words, length, 0, 0, &value), FLOURSCOOP_UNSOUND, 0, 0);
     expect_mark(words, length, 0, FLOURSCOOP_UNSOUND, 0);
     expect("release", flourscoop_release(words, length, 0, &value), FLOURSCOOP_UNSOUND, 0, 0);
@@ -271,6 +317,125 @@ static void shapes(void)
     }
 }
 
+/* Bins the shape of eight words by a call of its own. */
+static uint32_t bin_alone(uint32_t *words, size_t length, const int32_t *shape)
+{
+    const uint32_t id = (uint32_t)shape[7];
+    uint32_t tiles, blocks;
+    switch (shape[0]) {
+    case FLOURSCOOP_POINT: return flourscoop_bin_point(words, length, id, shape[1], shape[2], &tiles, &blocks);
+    case FLOURSCOOP_LINE:
+        return flourscoop_bin_line(words, length, id, shape[1], shape[2], shape[3], shape[4], &tiles, &blocks);
+    default:
+        return flourscoop_bin_triangle(words, length, id, shape[1], shape[2], shape[3], shape[4], shape[5], shape[6],
+                                       &tiles, &blocks);
+    }
+}
+
+/* Expects something of a list with a wrong word at a place: a kind, or a word that the kind does not use. */
+static void expect_each_wrong(const int32_t *list, size_t shapes, size_t words, void (*expect_wrong)(size_t, int32_t))
+{
+    for (size_t shape = 0; shape < shapes; shape++) {
+        const size_t first = shape * words;
+        expect_wrong(first, 0);
+        expect_wrong(first, 4);
+        expect_wrong(first, INT32_MIN);
+        for (size_t unused = 1 + 2 * (size_t)list[first]; unused < FLOURSCOOP_SHAPE_WORDS; unused++) {
+            expect_wrong(first + unused, 1);
+            expect_wrong(first + unused, INT32_MIN);
+        }
+    }
+}
+
+/* The draw call with one word changed. */
+static void expect_wrong_draw(size_t place, int32_t word)
+{
+    int32_t wrong[DRAWN_WORDS];
+    memcpy(wrong, drawn, sizeof wrong);
+    wrong[place] = word;
+    expect_no_answers("a wrong word is found", draw_pool, draw_room, wrong, DRAWN_WORDS, DRAWN, FLOURSCOOP_LIST);
+    expect_no_answers("and before the bytes", draw_pool, draw_room, wrong, DRAWN_WORDS, DRAWN - 1, FLOURSCOOP_LIST);
+    expect_no_answers("and after the pool", draw_pool, draw_room - 1, wrong, DRAWN_WORDS, 0, FLOURSCOOP_UNSOUND);
+}
+
+/* What refuses a draw call as a whole, alone and with the causes that come after it. */
+static void refused_draw_calls(void)
+{
+    for (size_t bytes = 0; bytes < DRAWN; bytes++) {
+        expect_no_answers("too few bytes", draw_pool, draw_room, drawn, DRAWN_WORDS, bytes, FLOURSCOOP_BYTES);
+        expect_no_answers("no pool", NULL, 0, drawn, DRAWN_WORDS, bytes, FLOURSCOOP_UNSOUND);
+    }
+    for (size_t words = 1; words < DRAWN_WORDS; words++)
+        if (words % FLOURSCOOP_BIN_WORDS != 0) {
+            expect_no_answers("a part of a shape", draw_pool, draw_room, drawn, words, DRAWN, FLOURSCOOP_LIST);
+            expect_no_answers("a part of a shape", draw_pool, draw_room, drawn, words, 0, FLOURSCOOP_LIST);
+        }
+    expect_each_wrong(drawn, DRAWN, FLOURSCOOP_BIN_WORDS, expect_wrong_draw);
+    expect_answers("no list and no bytes", draw_pool, draw_room, NULL, 0, 0, FLOURSCOOP_DONE, NULL);
+    expect_answers("no list and bytes", draw_pool, draw_room, NULL, 0, DRAWN, FLOURSCOOP_DONE, NULL);
+    expect_no_answers("no list and no pool", NULL, 0, NULL, 0, 0, FLOURSCOOP_UNSOUND);
+}
+
+/* The header's example, with bytes to spare and with none; the same shapes one by one; and what is refused as a whole. */
+static void draw_calls(void)
+{
+    uint8_t singly[DRAWN];
+    draw_room = layout->header + 32 + DRAWN_BLOCKS * layout->block_words;
+    for (size_t spare = 0; spare <= SPARE; spare++) {
+        expect("open", open_pool(draw_pool, draw_room, WIDTH, HEIGHT, S, DRAWN_BLOCKS), FLOURSCOOP_DONE, 0, 0);
+        expect_answers("the draw call", draw_pool, draw_room, drawn, DRAWN_WORDS, DRAWN + spare, FLOURSCOOP_DONE,
+                       drawn_answers);
+    }
+    expect("open", open_pool(single_pool, draw_room, WIDTH, HEIGHT, S, DRAWN_BLOCKS), FLOURSCOOP_DONE, 0, 0);
+    for (size_t place = 0; place < DRAWN; place++)
+        singly[place] = (uint8_t)bin_alone(single_pool, draw_room, drawn + FLOURSCOOP_BIN_WORDS * place);
+    expect_that(memcmp(singly, drawn_answers, sizeof singly) == 0, "the answers are those of single bins");
+    expect_that(memcmp(draw_pool, single_pool, draw_room * sizeof *draw_pool) == 0, "and so are the words");
+    for (uint32_t tile = 0; tile < 8; tile++)
+        for (uint32_t place = 0; place < 4; place++) {
+            const uint32_t id = drawn_lists[tile][place];
+            expect("read", flourscoop_read(draw_pool, draw_room, tile, place, &value),
+                   id == 0 ? FLOURSCOOP_NO_PLACE : FLOURSCOOP_DONE, id, 0);
+        }
+    refused_draw_calls();
+    expect_that(memcmp(draw_pool, single_pool, draw_room * sizeof *draw_pool) == 0, "the words stay");
+}
+
+/* Lays out the points, so many words each. */
+static void make_points(size_t words)
+{
+    memset(points, 0, sizeof points);
+    for (size_t shape = 0; shape <= FLOURSCOOP_MOST_SHAPES; shape++)
+        points[shape * words] = FLOURSCOOP_POINT;
+}
+
+/* A draw call of as many shapes as there may be: two blocks of 31 ids are filled, and the rest have no room. */
+static void longest_draw_call(void)
+{
+    static uint8_t answers[FLOURSCOOP_MOST_SHAPES + 1];
+    const size_t length = FLOURSCOOP_ROOM(WIDTH, HEIGHT, S, BLOCKS);
+    const size_t most = FLOURSCOOP_MOST_SHAPES * FLOURSCOOP_BIN_WORDS, more = most + FLOURSCOOP_BIN_WORDS;
+    size_t done = 0, no_room = 0;
+    make_points(FLOURSCOOP_BIN_WORDS);
+    memset(answers, 0xAA, sizeof answers);
+    expect("open", flourscoop_open(pool, length, WIDTH, HEIGHT, S, BLOCKS), FLOURSCOOP_DONE, 0, 0);
+    expect("1,048,577 shapes", flourscoop_bin_list(pool, length, points, more, answers, sizeof answers), FLOURSCOOP_LIST, 0,
+           0);
+    expect("1,048,575 bytes", flourscoop_bin_list(pool, length, points, most, answers, FLOURSCOOP_MOST_SHAPES - 1),
+           FLOURSCOOP_BYTES, 0, 0);
+    for (size_t place = 0; place < sizeof answers; place++)
+        done += answers[place] != 0xAA;
+    expect_that(done == 0, "no answer is written by a refusal");
+    expect("1,048,576 shapes", flourscoop_bin_list(pool, length, points, most, answers, sizeof answers), FLOURSCOOP_DONE, 0,
+           0);
+    while (done < sizeof answers && answers[done] == FLOURSCOOP_DONE)
+        done++;
+    while (done + no_room < sizeof answers && answers[done + no_room] == FLOURSCOOP_NO_ROOM)
+        no_room++;
+    expect_that(done == 62 && no_room == FLOURSCOOP_MOST_SHAPES - 62, "62 shapes are done, and the rest have no room");
+    expect_that(answers[FLOURSCOOP_MOST_SHAPES] == 0xAA, "the byte past the shapes stays");
+}
+
 /* Units of document 01's table, and where the range and the floats end. */
 static void units(void)
 {
@@ -403,7 +568,6 @@ static void expect_wrong_word(size_t place, int32_t word)
 /* Lists of shapes: the header's example, no list, faults, and as many shapes as there may be. */
 static void lists_of_shapes(void)
 {
-    static int32_t longest[(FLOURSCOOP_MOST_SHAPES + 1) * FLOURSCOOP_SHAPE_WORDS];
     static const uint64_t all[7] = {FLOURSCOOP_MOST_SHAPES, 0, FLOURSCOOP_MOST_SHAPES, FLOURSCOOP_MOST_SHAPES, 0, 1, 0};
     const size_t most = FLOURSCOOP_MOST_SHAPES * FLOURSCOOP_SHAPE_WORDS;
     expect_totals("the example", listed, LIST_WORDS, S, FLOURSCOOP_DONE, listed_totals);
@@ -413,22 +577,12 @@ static void lists_of_shapes(void)
     for (size_t words = 1; words < LIST_WORDS; words++)
         if (words % FLOURSCOOP_SHAPE_WORDS != 0)
             expect_totals("a part of a shape", listed, words, S, FLOURSCOOP_LIST, no_totals);
-    for (size_t shape = 0; shape < LISTED; shape++) {
-        const size_t first = shape * FLOURSCOOP_SHAPE_WORDS;
-        expect_wrong_word(first, 0);
-        expect_wrong_word(first, 4);
-        expect_wrong_word(first, INT32_MIN);
-        for (size_t unused = 1 + 2 * (size_t)listed[first]; unused < FLOURSCOOP_SHAPE_WORDS; unused++) {
-            expect_wrong_word(first + unused, 1);
-            expect_wrong_word(first + unused, INT32_MIN);
-        }
-    }
-    for (size_t place = 0; place < most + FLOURSCOOP_SHAPE_WORDS; place += FLOURSCOOP_SHAPE_WORDS)
-        longest[place] = FLOURSCOOP_POINT;
-    expect_totals("1,048,576 shapes", longest, most, S, FLOURSCOOP_DONE, all);
-    expect_totals("1,048,577 shapes", longest, most + FLOURSCOOP_SHAPE_WORDS, S, FLOURSCOOP_LIST, no_totals);
-    longest[most - 1] = 1;
-    expect_totals("their last word", longest, most, S, FLOURSCOOP_LIST, no_totals);
+    expect_each_wrong(listed, LISTED, FLOURSCOOP_SHAPE_WORDS, expect_wrong_word);
+    make_points(FLOURSCOOP_SHAPE_WORDS);
+    expect_totals("1,048,576 shapes", points, most, S, FLOURSCOOP_DONE, all);
+    expect_totals("1,048,577 shapes", points, most + FLOURSCOOP_SHAPE_WORDS, S, FLOURSCOOP_LIST, no_totals);
+    points[most - 1] = 1;
+    expect_totals("their last word", points, most, S, FLOURSCOOP_LIST, no_totals);
 }
 
 /* One refusal of each number. */
@@ -488,14 +642,15 @@ static void rooms(void)
 /* Each number has a text of its own, and so have all others together; the version is said twice alike. */
 static void texts(void)
 {
-    static const uint32_t numbers[] = {0, 1, 2, 3, 4, 5, 6, 7, 8, 9, 10, 11, 15}, unknown[] = {12, 14, 16, UINT32_MAX};
+    static const uint32_t numbers[] = {0, 1, 2, 3, 4, 5, 6, 7, 8, 9, 10, 11, 13, 15};
+    static const uint32_t unknown[] = {12, 14, 16, UINT32_MAX};
     char version[32];
     for (size_t at = 0; at < sizeof numbers / sizeof *numbers; at++)
         for (size_t before = 0; before < at; before++)
             expect_that(strcmp(flourscoop_number_text(numbers[before]), flourscoop_number_text(numbers[at])) != 0,
                         flourscoop_number_text(numbers[at]));
     for (size_t at = 0; at < sizeof unknown / sizeof *unknown; at++)
-        expect_that(flourscoop_number_text(unknown[at]) == flourscoop_number_text(11), "the text of an unknown number");
+        expect_that(flourscoop_number_text(unknown[at]) == flourscoop_number_text(13), "the text of an unknown number");
     snprintf(version, sizeof version, "%d.%d.%d", FLOURSCOOP_VERSION_MAJOR, FLOURSCOOP_VERSION_MINOR,
              FLOURSCOOP_VERSION_PATCH);
     expect_that(strcmp(version, FLOURSCOOP_VERSION) == 0, "the version and its parts agree");
@@ -511,7 +666,9 @@ int main(void)
         shapes();
         refusals();
         blocks_for_marks();
+        draw_calls();
     }
+    longest_draw_call();
     units();
     questions();
     ends();

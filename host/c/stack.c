@@ -26,6 +26,12 @@ static const int32_t list[] = {
     FLOURSCOOP_LINE, 0, 0, 12800, 7680, 0, 0,
     FLOURSCOOP_POINT, 256, 256, 0, 0, 0, 0,
 };
+static const int32_t bins[] = {
+    FLOURSCOOP_TRIANGLE, 0, 0, 12800, 0, 0, 7680, 1,
+    FLOURSCOOP_LINE, 0, 0, 12800, 7680, 0, 0, 2,
+    FLOURSCOOP_POINT, 256, 256, 0, 0, 0, 0, 3,
+};
+static uint8_t answers[3];
 static uint32_t counts[4];
 static uint64_t totals[3];
 
@@ -44,6 +50,10 @@ static void pixels_line(void) { number = flourscoop_bin_pixels_line(pool, words,
 static void pixels_triangle(void)
 {
     number = flourscoop_bin_pixels_triangle(pool, words, 1, 0, 0, 800, 0, 0, 480, &value, &other);
+}
+static void bin_list(void)
+{
+    number = flourscoop_bin_list(pool, words, bins, sizeof bins / sizeof *bins, answers, sizeof answers);
 }
 static void unit(void) { number = flourscoop_unit(-900.3f, &units); }
 static void read_id(void) { number = flourscoop_read(pool, words, 0, 1, &value); }
@@ -96,6 +106,7 @@ int main(void)
         {"bin_pixels_point", pixels_point},
         {"bin_pixels_line", pixels_line},
         {"bin_pixels_triangle", pixels_triangle},
+        {"bin_list", bin_list},
         {"unit", unit},
         {"read", read_id},
         {"high_water", high_water},

@@ -5,26 +5,30 @@
  * WHAT EVERY CALL KEEPS TO
  *   - Any argument is safe as long as each pointer is: nothing is assumed of the numbers or of the words in the pool.
  *   - It returns one of the numbers below. 0 means done; any other is a refusal. A refusal changes no word of the pool.
- *   - What a pointer at the end of the arguments names is always written: the value on 0, zero on a refusal.
+ *   - What a pointer at the end of the arguments names is always written: the value on 0, zero on a refusal. The answers to
+ *     a list are not one value: they are written on 0 alone.
  *   - It always returns. It uses no heap, no global data and no operating system; of the C library it needs memset.
  *   - No call writes a word past the pool's room, and what stands there does not matter to any answer.
  *
  * POINTERS
  *   pool, words   a slice: its first word and how many words it has. Aligned as a uint32_t is, to 4 bytes. Where words is
  *                 0, pool may be null.
- *   list, words   likewise, of int32_t; it is only read.
+ *   list          likewise with words or list_words, of int32_t; it is only read.
+ *   answers       likewise with answer_bytes, of bytes, at any address.
  *   the others    each to one uint32_t, int32_t or uint64_t, aligned as that is, a uint64_t to 8 bytes. Not null, not in the
  *                 pool or the list, no two the same.
+ *   Pool, list and answers of a call do not overlap.
  *
  * THREADS AND INTERRUPTS
  *   Calls on different pools are independent and may run at the same time. Calls on one pool must not overlap; two calls
- *   of which each only audits, reads or asks for a mark may. Calls that take no pool may always run, several on one list of
- *   shapes too, as long as nothing writes to that.
+ *   of which each only audits, reads or asks for a mark may. Calls that take no pool may always run. Several calls may take
+ *   one list of shapes, as long as nothing writes to that.
  *
- * STACK, in bytes, as measured, on x86-64 in an emulator; of bin's and of overlaps', 16,384 list the touched tiles
- *               bin      overlaps   audit   read    high_water   release   corner   box   open, open_two   unit
- *     x86-64    17,440   17,248     2,336   2,368   2,368        2,416     352      192   144              16
- *     Arm       17,344   17,216     2,288   2,320   2,304        2,304     240      160   128              32
+ * STACK, in bytes, as measured, on x86-64 in an emulator; of those of bin, bin_list and overlaps, 16,384 list the touched
+ * tiles
+ *               bin      bin_list   overlaps   audit   read    high_water   release   corner   box   open, open_two   unit
+ *     x86-64    -        -          17,248     2,336   2,368   2,368        2,416     352      192   144              16
+ *     Arm       18,848   18,800     17,216     2,288   2,320   2,304        2,304     240      160   128              32
  *
  * SCREEN AND UNITS
  *   A screen has a width and a height of 1 to 4,096 pixels. A tile is a square of 2^s by 2^s pixels, s from 3 to 6, cut
@@ -42,21 +46,33 @@
  *   its point.
  *
  * A LIST OF SHAPES
- *   It is lent to flourscoop_overlaps. A shape has seven words: its kind and six coordinates in units. Those that the kind
- *   does not use are 0.
- *     1, x1, y1, 0, 0, 0, 0        a point
- *     2, x1, y1, x2, y2, 0, 0      a line
- *     3, x1, y1, x2, y2, x3, y3    a triangle
+ *   It is lent to flourscoop_overlaps with seven words to a shape: its kind and six coordinates in units. Those that the
+ *   kind does not use are 0. It is lent to flourscoop_bin_list with eight: the id comes after them.
+ *     1, x1, y1, 0, 0, 0, 0            a point
+ *     2, x1, y1, x2, y2, 0, 0          a line
+ *     3, x1, y1, x2, y2, x3, y3        a triangle
+ *     3, x1, y1, x2, y2, x3, y3, id    a triangle with its id
  *   The shapes stand one after the other, at most 1,048,576 of them; there may be none. Their places count from 0. A
- *   coordinate may be any int32_t: a shape with one out of range is counted apart, and adds nothing else.
+ *   coordinate and an id may be any int32_t. Where a coordinate is out of range, overlaps counts the shape apart, and it adds
+ *   nothing else. Where a coordinate or the id is, bin_list refuses that shape, and goes on with the next.
  *
- *   An example, on a screen of 64 by 32 with s = 4, which has four columns and two rows of tiles:
+ *   An example of totals, on a screen of 64 by 32 with s = 4, which has four columns and two rows of tiles:
  *     place 0    1, 262144, 10, 0, 0, 0, 0       out of range
  *     place 1    2, 0, 0, 512, 512, 0, 0         its box meets 6 tiles, of which it touches 5
  *     place 2    3, 0, 0, 1024, 0, 0, 512        8, and 7
  *     place 3    3, 0, 0, 0, 512, 1024, 0        8, and 7
  *     place 4    1, 1025, 10, 0, 0, 0, 0         none: it is off the screen
  *     totals     shapes 4, out of range 1, tiles by box 22, by touching 19, difference 3, largest 7, its place 2
+ *
+ *   An example of a draw call, on the same screen, in a pool of 4 blocks that was just opened; each shape has its answer:
+ *     shape 0    1, 0, 0, 0, 0, 0, 0, 7             0   in tile 0, which takes a block; 3 are free
+ *     shape 1    3, 0, 0, 1024, 0, 0, 512, 8        8   6 of the 7 tiles that it touches are empty, and need a block each
+ *     shape 2    1, 256, 256, 0, 0, 0, 0, 9         0   in tiles 0, 1, 4 and 5, of which three take a block; none is free
+ *     shape 3    2, 0, 0, 512, 512, 0, 0, 10        8   one of the 5 tiles that it touches is empty
+ *     shape 4    1, 5, 5, 0, 0, 0, 0, -1            5   the id is below 0
+ *     shape 5    1, 5, 262144, 0, 0, 0, 0, 11       7   out of range
+ *     shape 6    2, 100, 100, 300, 100, 0, 0, 12    0   in tiles 0 and 1, whose blocks have places left
+ *   The call returns 0. Tile 0 has the list 7, 9, 12, tile 1 has 9, 12, and tiles 4 and 5 have 9.
  *
  * THE POOL
  *   It is of one of two editions, and every call reads either. With a header of H words and B words to a block, it needs
@@ -107,10 +123,10 @@
  *     uint32_t tile, mark, blocks = 0, ids = (pool[6] == 8 ? 32 : pool[8]) - 1;
  *     for (tile = 0; flourscoop_high_water(pool, words, tile, &mark) == FLOURSCOOP_DONE; tile++)
  *         blocks += (mark + ids - 1) / ids;
- *   Where no call was refused with 8, a pool for the same screen with the same H and B and at least so many blocks gives
- *   each of these calls the same answer. Where one was, the marks do not count it: make the calls again in a pool with more
- *   blocks. Where tiles are released between bins, one can take the blocks that another gave back, and for the very same
- *   calls fewer do: the most that were in use at once, word 3 less word 4.
+ *   Where no call, and no shape of a list, was refused with 8, a pool for the same screen with the same H and B and at least
+ *   so many blocks gives each of these calls the same answer. Where one was, the marks do not count it: make the calls again
+ *   in a pool with more blocks. Where tiles are released between bins, one can take the blocks that another gave back, and
+ *   for the very same calls fewer do: the most that were in use at once, word 3 less word 4.
  */
 #ifndef FLOURSCOOP_H
 #define FLOURSCOOP_H
@@ -124,9 +140,9 @@ extern "C" {
 
 /* The version of this header, and of the archive that goes with it. */
 #define FLOURSCOOP_VERSION_MAJOR 0
-#define FLOURSCOOP_VERSION_MINOR 5
+#define FLOURSCOOP_VERSION_MINOR 6
 #define FLOURSCOOP_VERSION_PATCH 0
-#define FLOURSCOOP_VERSION "0.5.0"
+#define FLOURSCOOP_VERSION "0.6.0"
 
 /* The numbers; their texts follow. Where several causes apply, each call's comment has the order of looking for them. */
 #define FLOURSCOOP_DONE 0u
@@ -140,6 +156,7 @@ extern "C" {
 #define FLOURSCOOP_NO_ROOM 8u
 #define FLOURSCOOP_NO_TILE 9u
 #define FLOURSCOOP_NO_PLACE 10u
+#define FLOURSCOOP_BYTES 11u
 #define FLOURSCOOP_LIST 15u
 
 /* What a number means, in a text that is never to be freed. A number that no call returns has one too. */
@@ -151,12 +168,13 @@ static inline const char *flourscoop_number_text(uint32_t number)
     case FLOURSCOOP_BLOCKS: return "more than 2,048 blocks, or blocks of neither 32 nor 64 words";
     case FLOURSCOOP_SHORT: return "the slice is shorter than the room needed";
     case FLOURSCOOP_UNSOUND: return "the words are not a sound pool";
-    case FLOURSCOOP_ID: return "the id is above 16,777,215";
+    case FLOURSCOOP_ID: return "the id is below 0 or above 16,777,215";
     case FLOURSCOOP_NOT_FINITE: return "a coordinate is infinite or no number";
     case FLOURSCOOP_OUT_OF_RANGE: return "a coordinate in units is outside -262,144 to 262,143";
     case FLOURSCOOP_NO_ROOM: return "the shape needs more blocks than are free";
     case FLOURSCOOP_NO_TILE: return "there is no such tile";
     case FLOURSCOOP_NO_PLACE: return "the place is at or past the tile's number of entries";
+    case FLOURSCOOP_BYTES: return "there are fewer answer bytes than shapes";
     case FLOURSCOOP_LIST: return "the list is too long or not of whole shapes, or a kind or an unused word is wrong";
     default: return "no call returns this number";
     }
@@ -173,8 +191,9 @@ static inline const char *flourscoop_number_text(uint32_t number)
 #define FLOURSCOOP_ROOM_TWO(width, height, s, blocks, block_words) \
     (10u + FLOURSCOOP_TABLE(width, height, s) + (size_t)(block_words) * (size_t)(blocks))
 
-/* The words of a shape in a list, the most shapes that a list may have, and their kinds. */
+/* The words of a shape in a list, without its id and with it; the most shapes that a list may have, and their kinds. */
 #define FLOURSCOOP_SHAPE_WORDS 7u
+#define FLOURSCOOP_BIN_WORDS 8u
 #define FLOURSCOOP_MOST_SHAPES 1048576u
 #define FLOURSCOOP_POINT 1
 #define FLOURSCOOP_LINE 2
@@ -231,6 +250,16 @@ uint32_t flourscoop_bin_pixels_line(uint32_t *pool, size_t words, uint32_t id,
 uint32_t flourscoop_bin_pixels_triangle(uint32_t *pool, size_t words, uint32_t id,
                                         float x1, float y1, float x2, float y2, float x3, float y3,
                                         uint32_t *tiles, uint32_t *blocks);
+
+/*
+ * Bins a draw call at a time: the shapes of a list with their ids, one after the other. It audits the pool once. The pool
+ * and the answers are then exactly as from single bins: answers[k] is the number that flourscoop_bin_* returns for the
+ * shape at place k, 0, 5, 7 or 8, and an id below 0 is a cause of 5. A shape that is refused is passed over, and the rest go
+ * on. Bytes past the list's shapes stay as they are. An empty list is done, whatever the answers.
+ * Returns 0; or 4, 15, 11, in this order, and then writes no word and no byte.
+ */
+uint32_t flourscoop_bin_list(uint32_t *pool, size_t words, const int32_t *list, size_t list_words, uint8_t *answers,
+                             size_t answer_bytes);
 
 /*
  * Writes the unit of a coordinate in pixels: the whole number nearest to 16 times it, a half to the even one.

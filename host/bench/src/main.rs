@@ -1,8 +1,10 @@
-//! Nanoseconds per call of the archive beside a plain Rust binner, in five runs; of the totals of a list, per shape; of another
-//! version's archive, where one is given, the unit too. Screen 800 by 480, s = 4, 2,048 blocks; pools of edition one and, in
-//! the rows that say so, of edition two with 64 words to a block.
+//! Nanoseconds per call of the archive beside a plain Rust binner, in five runs; of draw calls and of the totals of a list, per
+//! shape; of another version's archive, where one is given, the unit too. Screen 800 by 480, s = 4, 2,048 blocks; pools of
+//! edition one and, in the rows that say so, of edition two with 64 words to a block.
 
 mod clock;
+mod draws;
+mod lists;
 mod plain;
 mod shapes;
 mod table;
@@ -10,7 +12,9 @@ mod unit;
 
 use std::hint::black_box;
 
+use draws::draw_calls;
 use flourscoop::{list_of, raw, room, room_two, Screen, Shape, Vertex};
+use lists::lists_in;
 use plain::Plain;
 use shapes::{small, triangle, wide};
 use table::{Beside, Row};
@@ -114,16 +118,6 @@ fn filled_plain(shapes: &[Shape<Vertex>]) -> Plain {
     plain
 }
 
-/// The archive's list of each tile is the plain binner's, id by id.
-fn same_lists(words: &[u32], plain: &Plain) {
-    for (tile, list) in (0..).zip(&plain.lists) {
-        assert_eq!(words[(words[6] + 4 * tile) as usize] as usize, list.len());
-        for (place, &id) in (0..).zip(list) {
-            assert_eq!(raw::read(words, tile, place).done(), Ok([id]));
-        }
-    }
-}
-
 fn row(call: impl Into<String>, archive: f64, beside: Beside) -> Row {
     Row { call: call.into(), archive, beside }
 }
@@ -131,7 +125,7 @@ fn row(call: impl Into<String>, archive: f64, beside: Beside) -> Row {
 /// The calls on a pool with these shapes. `less_audit` says what stands beside a bin less its audit.
 fn calls_on(edition: Edition, kind: &str, shapes: &[Shape<Vertex>], less_audit: fn(f64) -> Beside) -> Vec<Row> {
     let (words, plain) = (filled(edition, shapes), filled_plain(shapes));
-    same_lists(&words, &plain);
+    assert_eq!(lists_in(&words), plain.lists);
     let opened = || edition.opened(SCREEN, BLOCKS);
     let listed: usize = plain.lists.iter().map(Vec::len).sum();
     eprintln!("{kind}: {:.1} tiles each", listed as f64 / shapes.len() as f64);
@@ -316,6 +310,8 @@ fn run() -> Vec<Row> {
     }
     rows.extend([least_bin(), snap("unit, a coordinate", Unit::HERE)]);
     rows.extend([totals("1,500 small shapes", &small(1500)), totals("31 screen-wide shapes", &wide(31))]);
+    rows.extend(draw_calls("10,000 small shapes", "in one list", &small(10_000), 10_000));
+    rows.extend(draw_calls("10,000 screen-wide shapes", "in lists of 31", &wide(10_000), 31));
     rows.extend(Unit::OTHER.map(|unit| snap("unit, a coordinate, by the other archive", unit)));
     rows
 }

@@ -1,9 +1,9 @@
 //! A plain binner to compare with: a vector for each tile, and the same corner test. It refuses nothing, and there is
-//! nothing to audit. And the totals of a list of shapes, by the same test.
+//! nothing to audit. It takes shapes one by one or as a list. And the totals of a list of shapes, by the same test.
 
 use std::ops::Range;
 
-use flourscoop::{Overlaps, Screen, Shape, Vertex, SHAPE_WORDS};
+use flourscoop::{Overlaps, Screen, Shape, Vertex, BIN_WORDS, SHAPE_WORDS};
 
 pub struct Plain {
     grid: Grid,
@@ -62,6 +62,17 @@ fn vertices<V: Copy>(shape: Shape<V>) -> [V; 3] {
     }
 }
 
+/// The same of a shape as a list has it.
+#[inline(always)]
+fn listed_vertices([kind, x1, y1, x2, y2, x3, y3]: [i32; SHAPE_WORDS]) -> [Vertex; 3] {
+    let [a, b, c] = [(x1, y1), (x2, y2), (x3, y3)].map(|(x, y)| Vertex { x, y });
+    match kind {
+        1 => [a, a, a],
+        2 => [a, b, b],
+        _ => [a, b, c],
+    }
+}
+
 /// The value of the edge from a to b at (x, y), whose sign says the side.
 fn edge(a: Vertex, b: Vertex, x: i64, y: i64) -> i64 {
     let (from_x, from_y) = (i64::from(a.x), i64::from(a.y));
@@ -113,7 +124,21 @@ impl Plain {
     }
 
     pub fn bin(&mut self, id: u32, shape: Shape<Vertex>) -> usize {
-        let (v, Plain { grid, lists }) = (vertices(shape), self);
+        self.bin_vertices(id, vertices(shape))
+    }
+
+    /// Bins the shapes of a list with ids. A call, as the archive's is.
+    #[inline(never)]
+    pub fn bin_list(&mut self, list: &[i32]) {
+        for words in list.chunks_exact(BIN_WORDS) {
+            let [kind, x1, y1, x2, y2, x3, y3, id] = <[i32; BIN_WORDS]>::try_from(words).unwrap();
+            self.bin_vertices(id as u32, listed_vertices([kind, x1, y1, x2, y2, x3, y3]));
+        }
+    }
+
+    #[inline(always)]
+    fn bin_vertices(&mut self, id: u32, v: [Vertex; 3]) -> usize {
+        let Plain { grid, lists } = self;
         let mut listed = 0;
         grid.touched(v, |tile| {
             lists[tile].push(id);
@@ -138,17 +163,11 @@ pub fn overlaps(screen: Screen, list: &[i32]) -> Overlaps {
     let (mut shapes, mut out_of_range, mut box_tiles, mut touched_tiles) = (0, 0, 0, 0);
     let mut largest: Option<(u32, u32)> = None;
     for (place, words) in (0..).zip(list.chunks_exact(SHAPE_WORDS)) {
-        let [kind, x1, y1, x2, y2, x3, y3] = <[i32; SHAPE_WORDS]>::try_from(words).unwrap();
         if words[1..].iter().any(|unit| !(-262_144..=262_143).contains(unit)) {
             out_of_range += 1;
             continue;
         }
-        let [a, b, c] = [(x1, y1), (x2, y2), (x3, y3)].map(|(x, y)| Vertex { x, y });
-        let v = match kind {
-            1 => [a, a, a],
-            2 => [a, b, b],
-            _ => [a, b, c],
-        };
+        let v = listed_vertices(words.try_into().unwrap());
         let mut touched = 0;
         box_tiles += grid.touched(v, |_| touched += 1);
         shapes += 1;
@@ -178,7 +197,8 @@ pub fn unit(v: f32) -> Result<i32, u32> {
 #[cfg(test)]
 mod tests {
     use super::*;
-    use flourscoop::{list_of, raw, room};
+    use crate::lists::lists_in;
+    use flourscoop::{bin_list_of, list_of, raw, room};
 
     const SCREEN: Screen = Screen { width: 60, height: 28, s: 4 };
 
@@ -188,11 +208,32 @@ mod tests {
         (950..970).flat_map(move |x| (440..460).map(move |y| line(x, y)))
     }
 
+    /// A pool of so many blocks.
+    fn opened(blocks: u32) -> Vec<u32> {
+        let mut words = vec![0; room(SCREEN, blocks).unwrap()];
+        raw::open(&mut words, SCREEN, blocks).done().unwrap();
+        words
+    }
+
+    /// They, as a list between a point and a triangle, are listed as the archive lists them.
+    #[test]
+    fn a_list_is_binned_as_by_the_archive() {
+        let (mut words, mut plain) = (opened(40), Plain::open(SCREEN));
+        let [low, right, far] = [[-9, -9], [2000, -9], [-9, 700]].map(|[x, y]| Vertex { x, y });
+        let shapes = [Shape::Point(right), Shape::Point(Vertex { x: 256, y: 256 })].into_iter().chain(lines());
+        let list = bin_list_of((0..).zip(shapes.chain([Shape::Triangle(low, right, far)])));
+        let mut answers = [1; 403];
+        raw::bin_list(&mut words, &list, &mut answers).done().unwrap();
+        plain.bin_list(&list);
+        assert_eq!(answers, [0; 403]);
+        assert_eq!(lists_in(&words), plain.lists);
+        assert_eq!(plain.lists.iter().flatten().filter(|&&id| id == 402).count(), 8);
+    }
+
     /// They are listed as the archive lists them.
     #[test]
     fn a_tile_ends_where_the_screen_ends() {
-        let (mut words, mut plain) = (vec![0; room(SCREEN, 16).unwrap()], Plain::open(SCREEN));
-        raw::open(&mut words, SCREEN, 16).done().unwrap();
+        let (mut words, mut plain) = (opened(16), Plain::open(SCREEN));
         for line in lines() {
             let [tiles, _] = raw::bin(&mut words, 1, line).done().unwrap();
             assert_eq!(plain.bin(1, line), tiles as usize, "{line:?}");

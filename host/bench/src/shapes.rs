@@ -18,12 +18,12 @@ pub fn small(count: u32) -> Vec<Shape<Vertex>> {
     (0..count).map(at).collect()
 }
 
-/// Triangles that reach from side to side of the screen, in both windings.
+/// Triangles that reach from side to side of the screen, in both windings; every 31 of them are much as the first 31.
 pub fn wide(count: u32) -> Vec<Shape<Vertex>> {
     let at = |k: u32| {
-        let k = k as i32 * 11;
-        let (a, b, c) = ([k, 0], [12_800, k], [12_000 - k, 7_680]);
-        if k % 2 == 0 {
+        let (along, down) = ((k % 31 * 11) as i32, (k / 31) as i32);
+        let (a, b, c) = ([along, down], [12_800, along + down], [12_000 - along, 7_680 - down]);
+        if along % 2 == 0 {
             triangle(a, b, c)
         } else {
             triangle(a, c, b)

@@ -24,10 +24,12 @@
 //! # Ok::<(), Refusal>(())
 //! ```
 
+mod bin_list;
 mod overlaps;
 pub mod raw;
 mod refusal;
 
+pub use bin_list::{bin_list_of, refused, BIN_WORDS};
 pub use overlaps::{list_of, overlaps, Overlaps, MOST_SHAPES, SHAPE_WORDS};
 pub use refusal::Refusal;
 

@@ -27,6 +27,9 @@ extern "C" {
     fn flourscoop_bin_pixels_triangle(pool: *mut u32, words: usize, id: u32,
         x1: f32, y1: f32, x2: f32, y2: f32, x3: f32, y3: f32, tiles: *mut u32, blocks: *mut u32) -> u32;
 
+    fn flourscoop_bin_list(pool: *mut u32, words: usize, list: *const i32, list_words: usize,
+        answers: *mut u8, answer_bytes: usize) -> u32;
+
     fn flourscoop_unit(v: f32, unit: *mut i32) -> u32;
 
     fn flourscoop_box_point(width: u32, height: u32, s: u32, tile: u32,
@@ -110,6 +113,14 @@ pub fn bin_pixels(pool: &mut [u32], id: u32, shape: Shape<Pixel>) -> Answer<[u32
     answer(|[tiles, blocks]| {
         call!(flourscoop_bin_pixels_point flourscoop_bin_pixels_line flourscoop_bin_pixels_triangle:
             (pool.as_mut_ptr(), pool.len(), id) shape (tiles, blocks))
+    })
+}
+
+/// Bins the shapes of a list, and writes the number of each to the answers. Numbers: 0, 4, 11, 15.
+pub fn bin_list(pool: &mut [u32], list: &[i32], answers: &mut [u8]) -> Answer<[u32; 0]> {
+    let bytes = answers.len();
+    answer(|_| unsafe {
+        flourscoop_bin_list(pool.as_mut_ptr(), pool.len(), list.as_ptr(), list.len(), answers.as_mut_ptr(), bytes)
     })
 }
 

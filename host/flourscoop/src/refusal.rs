@@ -35,12 +35,13 @@ refusals! {
     Blocks 2 "more than 2,048 blocks, or blocks of neither 32 nor 64 words"
     Short 3 "the slice is shorter than the room needed"
     Unsound 4 "the words are not a sound pool"
-    Id 5 "the id is above 16,777,215"
+    Id 5 "the id is below 0 or above 16,777,215"
     NotFinite 6 "a coordinate is infinite or no number"
     OutOfRange 7 "a coordinate in units is outside -262,144 to 262,143"
     NoRoom 8 "the shape needs more blocks than are free"
     NoTile 9 "there is no such tile"
     NoPlace 10 "the place is at or past the tile's number of entries"
+    Bytes 11 "there are fewer answer bytes than shapes"
     List 15 "the list is too long or not of whole shapes, or a kind or an unused word is wrong"
 }
 

@@ -4,25 +4,9 @@ use std::cmp::Reverse;
 use std::collections::BTreeMap;
 
 use crate::screen::Screen;
+use crate::shapes::{faults, vertices, WORDS_OF_SHAPE};
 use crate::touch::{box_meets, in_range, touches};
 use crate::{number, Vertex};
-
-/// The words of a shape: its kind, and x and y of three vertices.
-pub const WORDS_OF_SHAPE: usize = 7;
-pub const MOST_SHAPES: usize = 1 << 20;
-
-/// What in a list is not as it should be.
-#[derive(Clone, Copy, PartialEq, Eq, PartialOrd, Ord, Debug)]
-pub enum Fault {
-    /// there are too many shapes
-    Long,
-    /// so many words stand past the last whole shape
-    Part(usize),
-    /// a kind is not 1, 2 or 3
-    Kind(i32),
-    /// the word in this column, of a vertex that the kind does not have, is not zero
-    Unused { kind: i32, column: usize },
-}
 
 /// The totals of a list.
 #[derive(Clone, Copy, PartialEq, Eq, Default, Debug)]
@@ -34,31 +18,6 @@ pub struct Totals {
     pub difference: u128,
     pub largest: u128,
     pub place: u128,
-}
-
-/// The fault of a word, where it has one: the first word of a shape is its kind, and each other belongs to a vertex.
-fn fault_at(list: &[i32], place: usize) -> Option<Fault> {
-    let column = place % WORDS_OF_SHAPE;
-    let (word, kind) = (list[place], list[place - column]);
-    match (column, kind) {
-        (0, 1..=3) => None,
-        (0, _) => Some(Fault::Kind(kind)),
-        (_, 1..=3) if word != 0 && column.div_ceil(2) > kind as usize => Some(Fault::Unused { kind, column }),
-        _ => None,
-    }
-}
-
-/// All faults of a list.
-pub fn faults(list: &[i32]) -> impl Iterator<Item = Fault> + '_ {
-    let long = (list.len() > WORDS_OF_SHAPE * MOST_SHAPES).then_some(Fault::Long);
-    let part = Some(list.len() % WORDS_OF_SHAPE).filter(|&words| words != 0).map(Fault::Part);
-    let in_words = (0..list.len()).filter_map(|place| fault_at(list, place));
-    long.into_iter().chain(part).chain(in_words)
-}
-
-/// The vertices that the words of a shape without a fault say.
-pub fn vertices(words: &[i32]) -> Vec<Vertex> {
-    words[1..].chunks(2).take(words[0] as usize).map(|vertex| [vertex[0], vertex[1]]).collect()
 }
 
 /// How many tiles of a screen the box of a shape meets, how many the shape touches, and how many only the box has.
@@ -78,7 +37,7 @@ pub fn overlaps(screen: Screen, list: &[i32]) -> Result<Totals, u32> {
     if !screen.allowed() {
         return Err(number::SCREEN);
     }
-    if faults(list).next().is_some() {
+    if faults(list, WORDS_OF_SHAPE).next().is_some() {
         return Err(number::LIST);
     }
     // how often each shape stands in the list, and where first

@@ -1,12 +1,13 @@
-//! The model gives what document 01 and requests P1, P2, P8 and P12 list.
+//! The model gives what document 01 and requests P1, P2, P4, P8 and P12 list.
 
 use model::layout::{Layout, LAYOUTS};
-use model::listed::{Listed, LISTED};
+use model::listed::{Drawn, Listed, DRAWN, LISTED};
 use model::marked::{Cut, Marked, PoolCase, CUT, MARKED, POOL_CASES, SCREEN};
 use model::number;
-use model::overlaps::{faults, overlaps, Fault as ListFault};
+use model::overlaps::overlaps;
 use model::pool::{Fault, State, POISON};
 use model::screen::Screen;
+use model::shapes::{faults, Fault as ListFault, WORDS_OF_BIN, WORDS_OF_SHAPE};
 use model::touch::{box_meets, touched};
 use model::unit::{unit, TABLE};
 
@@ -43,7 +44,7 @@ fn lists_of_shapes() {
 
 #[test]
 fn a_list_has_each_of_its_faults() {
-    let of = |list: &[i32]| faults(list).collect::<Vec<_>>();
+    let of = |list: &[i32]| faults(list, WORDS_OF_SHAPE).collect::<Vec<_>>();
     assert_eq!(of(&[1, 5, 5, 1, 2, 3, 4]), [3, 4, 5, 6].map(|column| ListFault::Unused { kind: 1, column }));
     assert_eq!(of(&[2, 5, 5, 1, 2, 3, 4]), [5, 6].map(|column| ListFault::Unused { kind: 2, column }));
     assert_eq!(of(&[3, 5, 5, 1, 2, 3, 4]), []);
@@ -51,6 +52,33 @@ fn a_list_has_each_of_its_faults() {
     let points = [1, 0, 0, 0, 0, 0, 0].repeat((1 << 20) + 1);
     assert_eq!(of(&points), [ListFault::Long]);
     assert_eq!(of(&points[7..]), []);
+}
+
+#[test]
+fn any_id_is_without_a_fault() {
+    let of = |list: &[i32]| faults(list, WORDS_OF_BIN).collect::<Vec<_>>();
+    assert_eq!(of(&[1, 5, 5, 0, 0, 0, 0, i32::MIN, 2, 5, 5, 0, 0, 0, 0, -1, 3, 5, 5, 0, 0, 0, 0, i32::MAX]), []);
+    assert_eq!(of(&[2, 5, 5, 1, 2, 3, 4, 9]), [5, 6].map(|column| ListFault::Unused { kind: 2, column }));
+    assert_eq!(of(&[1, 5, 5, 0, 0, 0, 0]), [ListFault::Part(7)]);
+    let points = [1, 0, 0, 0, 0, 0, 0, -9].repeat((1 << 20) + 1);
+    assert_eq!(of(&points), [ListFault::Long]);
+    assert_eq!(of(&points[8..]), []);
+}
+
+#[test]
+fn lists_with_ids() {
+    for layout in LAYOUTS {
+        for Drawn { name, blocks, list, answers, lists } in DRAWN {
+            let (opened, shapes) = (State::opened(layout, SCREEN, blocks), list.len() / WORDS_OF_BIN);
+            let mut pool = opened.clone();
+            if answers.is_ok() && shapes > 0 {
+                assert_eq!(pool.bin_list(list, shapes - 1), Err(number::BYTES), "{name}");
+            }
+            assert_eq!(pool, opened, "{name}");
+            assert_eq!(pool.bin_list(list, shapes), answers.map(<[u8]>::to_vec), "{name}");
+            assert_eq!(pool.tiles.iter().map(|tile| &tile.ids[..]).collect::<Vec<_>>(), lists, "{name}");
+        }
+    }
 }
 
 #[test]

@@ -1,5 +1,7 @@
 //! The calls on a pool, made on the archive and on the model side by side.
 
+use std::borrow::Cow;
+
 use flourscoop::raw::{self, Answer};
 use flourscoop::Shape;
 use model::layout::{Layout, LAYOUTS};
@@ -8,7 +10,10 @@ use model::screen::Screen;
 use model::touch::{box_meets, question, touches};
 use model::{number, Pixel, Vertex};
 
+use crate::answers::{no_room, Answers};
+use crate::draw::Draw;
 use crate::generate;
+use crate::list::List;
 use crate::random::Random;
 use crate::smaller;
 
@@ -19,6 +24,7 @@ pub enum Call {
     Audit,
     Bin { id: u32, shape: Vec<Vertex> },
     BinPixels { id: u32, shape: Vec<Pixel> },
+    BinList(Draw),
     Read { tile: u32, place: u32 },
     HighWater { tile: u32 },
     Release { tile: u32 },
@@ -40,7 +46,8 @@ impl Blocks {
     }
 }
 
-/// The number that a call returns and the values that it writes, zeros for those that it has not.
+/// The number that a call returns and the values that it writes, zeros for those that it has not. The answers to a list are
+/// not among them.
 pub type Outcome = [u32; 3];
 
 impl Call {
@@ -48,7 +55,7 @@ impl Call {
     pub fn make(random: &Random, layout: Layout, screen: Screen) -> Call {
         let tile = generate::tile(random, screen);
         let other = random.pick(&[tile, tile, tile, tile, tile, tile, screen.tiles(), u32::MAX]);
-        match random.below(21) {
+        match random.below(23) {
             0..=7 => Call::Bin { id: generate::id(random), shape: shape(random, screen, tile) },
             8..=11 => {
                 let shape = shape(random, screen, tile);
@@ -61,6 +68,7 @@ impl Call {
             15..=17 => Call::Release { tile: other },
             18 => Call::HighWater { tile: other },
             19 => Call::Audit,
+            20 | 21 => Call::BinList(Draw::make(random, screen, 6)),
             _ => {
                 let another = random.pick(&[random.pick(&LAYOUTS), generate::bad_layout(random)]);
                 let (screen, blocks) = random.pick(&[
@@ -77,9 +85,11 @@ impl Call {
     }
 
     /// One of each call that takes a pool, but for the opening.
-    pub fn each_on_a_pool() -> [Call; 6] {
+    pub fn each_on_a_pool() -> [Call; 7] {
+        let list = List { shapes: vec![(2, [1, 1, 1, 0, 0, 0, 0, 8])], rest: Vec::new() };
         [
             Call::Audit,
+            Call::BinList(Draw { list, spare: 1 }),
             Call::Bin { id: 8, shape: vec![[1, 1]] },
             Call::BinPixels { id: 8, shape: vec![[0, 0]] },
             Call::Read { tile: 0, place: 0 },
@@ -105,6 +115,24 @@ impl Call {
         }
     }
 
+    /// The call less the shapes of its list that these answers refuse for room; as it is, where there are none.
+    pub fn less_no_room(&self, answers: &[u8]) -> Cow<'_, Call> {
+        match self {
+            Call::BinList(draw) if answers.iter().any(|&answer| no_room(answer)) => {
+                Cow::Owned(Call::BinList(draw.less_no_room(answers)))
+            }
+            _ => Cow::Borrowed(self),
+        }
+    }
+
+    /// The bytes that the call is lent for answers, before it is made.
+    fn untouched(&self) -> Answers {
+        match self {
+            Call::BinList(draw) => draw.untouched(),
+            _ => Answers::untouched(0),
+        }
+    }
+
     /// The call with a smaller shape or a lower number.
     pub fn smaller(&self) -> Vec<Call> {
         match self {
@@ -115,6 +143,7 @@ impl Call {
                 let units = model::unit::units(shape);
                 units.into_iter().map(|shape| Call::Bin { id: *id, shape }).collect()
             }
+            Call::BinList(draw) => draw.smaller().into_iter().map(Call::BinList).collect(),
             &Call::Read { tile, place } => {
                 let tiles = smaller::lower(tile).into_iter().map(|tile| Call::Read { tile, place });
                 tiles.chain(smaller::lower(place).into_iter().map(|place| Call::Read { tile, place })).collect()
@@ -224,6 +253,8 @@ pub struct Slot {
     pub words: Vec<u32>,
     /// what the words say, where they are a sound pool
     pub state: Option<State>,
+    /// the bytes that the last call was lent for answers
+    pub answers: Answers,
     blocks: u32,
     expected: Vec<u32>,
 }
@@ -231,24 +262,27 @@ pub struct Slot {
 impl Slot {
     /// A slot of these words, in which `Blocks::Own` means so many blocks.
     pub fn over(words: Vec<u32>, blocks: u32) -> Slot {
-        Slot { state: State::read(&words).ok(), expected: words.clone(), blocks, words }
+        let answers = Answers::untouched(0);
+        Slot { state: State::read(&words).ok(), expected: words.clone(), blocks, answers, words }
     }
 
     /// Makes the call on the archive alone, and compares nothing.
     pub fn on_archive(&mut self, call: &Call) -> Outcome {
         let words = &mut self.words[..];
+        self.answers = call.untouched();
         match call {
             &Call::Open { layout, screen, blocks } => outcome(open(words, layout, screen, blocks.count(self.blocks))),
             Call::Audit => outcome(raw::audit(words)),
             Call::Bin { id, shape } => outcome(raw::bin(words, *id, shape_of(shape))),
             Call::BinPixels { id, shape } => outcome(raw::bin_pixels(words, *id, pixels_of(shape))),
+            Call::BinList(draw) => outcome(raw::bin_list(words, &draw.list.words(), self.answers.lent())),
             &Call::Read { tile, place } => outcome(raw::read(words, tile, place)),
             &Call::HighWater { tile } => outcome(raw::high_water(words, tile)),
             &Call::Release { tile } => outcome(raw::release(words, tile)),
         }
     }
 
-    fn on_model(&mut self, call: &Call) -> Outcome {
+    fn on_model(&mut self, call: &Call, answers: &mut [u8]) -> Outcome {
         if let &Call::Open { layout, screen, blocks } = call {
             let opened = State::open(self.words.len(), layout, screen, blocks.count(self.blocks));
             let answer = opened.map(|state| {
@@ -264,21 +298,29 @@ impl Slot {
             Call::Open { .. } | Call::Audit => expected(Ok([])),
             Call::Bin { id, shape } => expected(state.bin(*id, shape)),
             Call::BinPixels { id, shape } => expected(state.bin_pixels(*id, shape)),
+            Call::BinList(draw) => expected(state.bin_list(&draw.list.words(), answers.len()).map(|numbers| {
+                answers[..numbers.len()].copy_from_slice(&numbers);
+                []
+            })),
             &Call::Read { tile, place } => expected(state.id_at(tile, place).map(|id| [id])),
             &Call::HighWater { tile } => expected(state.high_water(tile).map(|mark| [mark])),
             &Call::Release { tile } => expected(state.release(tile).map(|blocks| [blocks])),
         }
     }
 
-    /// Makes the call on both sides and compares the outcome and every word.
+    /// Makes the call on both sides and compares the outcome, every answer byte and every word.
     pub fn call(&mut self, call: &Call) -> Result<Outcome, String> {
-        let (archive, model) = (self.on_archive(call), self.on_model(call));
+        let mut answers = call.untouched();
+        let (archive, model) = (self.on_archive(call), self.on_model(call, answers.lent()));
         if let Some(state) = &self.state {
             let words = state.words();
             self.expected[..words.len()].copy_from_slice(&words);
         }
         if archive != model {
             return Err(format!("{call:?}: the archive gives {archive:?}, the model {model:?}"));
+        }
+        if let Some(wrong) = self.answers.other_than(&answers) {
+            return Err(format!("{call:?}: {wrong}"));
         }
         let differs = (0..self.words.len()).find(|&at| self.words[at] != self.expected[at]);
         match differs {

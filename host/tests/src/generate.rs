@@ -237,11 +237,43 @@ pub fn id(random: &Random) -> u32 {
     }
 }
 
+/// An id as a list has it; once in a while one that is too high or below 0.
+pub fn listed_id(random: &Random) -> i32 {
+    match random.below(30) {
+        0 => random.pick(&[-1, i32::MIN, i32::MAX, MOST_ID as i32 + 1]),
+        _ => id(random) as i32,
+    }
+}
+
 /// A mark of a tile with so many entries, in a pool whose blocks hold so many: the entries, the most that there can be, or
 /// between.
 fn mark(random: &Random, entries: usize, most: usize) -> u32 {
     let (least, most) = (entries as u32, most as u32);
     random.pick(&[least, least, most, least + random.below(most - least + 1)])
+}
+
+/// The state of a sound pool in which each tile has so many entries and so many blocks are free, the blocks in any order.
+pub fn filled(random: &Random, layout: Layout, screen: Screen, entries: &[usize], free: usize) -> State {
+    let ids_of_block = layout.ids_of_block();
+    let chain = |entries: usize| entries.div_ceil(ids_of_block);
+    let blocks = entries.iter().map(|&entries| chain(entries)).sum::<usize>() + free;
+    let mut state = State::opened(layout, screen, blocks as u32);
+    random.shuffle(state.free.make_contiguous());
+    for (tile, &entries) in state.tiles.iter_mut().zip(entries) {
+        *tile = Tile {
+            blocks: state.free.drain(..chain(entries)).collect(),
+            ids: (0..entries).map(|_| random.pick(&[0, MOST_ID, random.below(MOST_ID)])).collect(),
+            mark: mark(random, entries, ids_of_block * blocks),
+        };
+    }
+    state
+}
+
+/// A number of entries that needs so many blocks, most often one with which a block begins or ends.
+pub fn entries(random: &Random, ids_of_block: usize, blocks: usize) -> usize {
+    let any = random.below(ids_of_block as u32) as usize;
+    let places_left = random.pick(&[0, 1, ids_of_block - 2, ids_of_block - 1, any]);
+    (ids_of_block * blocks).saturating_sub(places_left)
 }
 
 /// The state of a sound pool, its blocks in any order: most have chains of up to three blocks, one in a hundred has longer
@@ -252,24 +284,13 @@ pub fn state(random: &Random, layout: Layout) -> State {
         1..=40 => (screen(random, 3), random.below(200), 70),
         _ => (screen(random, 5), random.below(random.pick(&[3, 12, 40])), 3),
     };
-    let ids_of_block = layout.ids_of_block();
-    let mut state = State::opened(layout, screen, blocks);
-    random.shuffle(state.free.make_contiguous());
-    for tile in &mut state.tiles {
+    let mut free = blocks as usize;
+    let mut entries_of_a_tile = || {
         let chain = random.pick(&[0, 0, 1, 1, 2, 1 + random.below(long)]) as usize;
-        let chain = if chain > state.free.len() { 0 } else { chain };
-        let entries = match chain {
-            0 => 0,
-            _ => {
-                let any = random.below(ids_of_block as u32) as usize;
-                ids_of_block * chain - random.pick(&[0, 1, ids_of_block - 2, ids_of_block - 1, any])
-            }
-        };
-        *tile = Tile {
-            blocks: state.free.drain(..chain).collect(),
-            ids: (0..entries).map(|_| random.pick(&[0, MOST_ID, random.below(MOST_ID)])).collect(),
-            mark: mark(random, entries, ids_of_block * blocks as usize),
-        };
-    }
-    state
+        let chain = if chain > free { 0 } else { chain };
+        free -= chain;
+        entries(random, layout.ids_of_block(), chain)
+    };
+    let entries: Vec<usize> = (0..screen.tiles()).map(|_| entries_of_a_tile()).collect();
+    filled(random, layout, screen, &entries, free)
 }

@@ -1,7 +1,9 @@
 //! What the tests share: fixed seeds, cases, the smallest failing case, the calls on the archive and on the model, the
-//! greatest length that each list had, and lists of shapes.
+//! greatest length that each list had, lists of shapes, draw calls and the bytes lent for their answers.
 
+pub mod answers;
 pub mod call;
+pub mod draw;
 pub mod generate;
 pub mod hold;
 pub mod lengths;

@@ -1,9 +1,11 @@
-//! Lists of shapes, most of them where a total or a refusal turns, counted by the archive and by the model side by side.
+//! Lists of shapes, without ids and with them, most of them where a total or a refusal turns; those without, counted by the
+//! archive and by the model side by side.
 
 use flourscoop::raw::{self, Answer};
 use flourscoop::Overlaps;
-use model::overlaps::{faults, overlaps, vertices, Totals, WORDS_OF_SHAPE};
+use model::overlaps::{overlaps, Totals};
 use model::screen::Screen;
+use model::shapes::{faults, vertices, WORDS_OF_BIN, WORDS_OF_SHAPE};
 use model::{number, Vertex, UNITS};
 
 use crate::call::screen_of;
@@ -11,18 +13,29 @@ use crate::generate;
 use crate::random::Random;
 use crate::smaller::{self, each, fewer, nearer_zero};
 
-/// A shape as a list has it.
+/// A shape as a list without ids has it.
 pub type Words = [i32; WORDS_OF_SHAPE];
+
+/// A shape as a list with ids has it.
+pub type BinWords = [i32; WORDS_OF_BIN];
 
 /// A triangle over every screen.
 pub const COVERING: Words = [3, -262_144, -262_144, 262_143, -262_144, 0, 262_143];
+/// A point of the first tile.
+pub const POINT: Words = [1, 5, 5, 0, 0, 0, 0];
 
-/// A list on a screen: shapes, each so many times in a row, and words past the last of them.
-#[derive(Clone, Debug)]
-pub struct List {
-    pub screen: Screen,
-    pub shapes: Vec<(usize, Words)>,
+/// A list of so many words to a shape: shapes, each so many times in a row, and words past the last of them.
+#[derive(Clone, PartialEq, Eq, Debug)]
+pub struct List<const WORDS: usize> {
+    pub shapes: Vec<(usize, [i32; WORDS])>,
     pub rest: Vec<i32>,
+}
+
+/// A list without ids, and a screen.
+#[derive(Clone, Debug)]
+pub struct OnScreen {
+    pub screen: Screen,
+    pub list: List<WORDS_OF_SHAPE>,
 }
 
 /// The model's shape, as a list has it.
@@ -31,6 +44,11 @@ pub fn words_of(shape: &[Vertex]) -> Words {
     words[0] = shape.len() as i32;
     words[1..=2 * shape.len()].copy_from_slice(shape.as_flattened());
     words
+}
+
+/// A shape with an id.
+fn bin_words([kind, x1, y1, x2, y2, x3, y3]: Words, id: i32) -> BinWords {
+    [kind, x1, y1, x2, y2, x3, y3, id]
 }
 
 /// The model's totals, as the wrapper has them.
@@ -81,10 +99,10 @@ fn not_zero(random: &Random) -> i32 {
     random.pick(&[1, -1, i32::MIN, i32::MAX, 1 << 8, 1 << 16, 100])
 }
 
-impl List {
+impl List<WORDS_OF_SHAPE> {
     /// A list without a fault, of at most so many different shapes. Some of them are an earlier one with its vertices in
     /// another order, which touches as many tiles.
-    pub fn make(random: &Random, screen: Screen, most: u32) -> List {
+    pub fn make(random: &Random, screen: Screen, most: u32) -> Self {
         let mut different: Vec<Vec<Vertex>> = Vec::new();
         for _ in 0..random.below(most + 1) {
             let mut another = shape(random, screen);
@@ -95,31 +113,44 @@ impl List {
             different.push(another);
         }
         let times = |shape: Vec<Vertex>| (random.pick(&[1, 1, 1, 1, 1, 1, 2, 3]), words_of(&shape));
-        List { screen, shapes: different.into_iter().map(times).collect(), rest: Vec::new() }
+        List { shapes: different.into_iter().map(times).collect(), rest: Vec::new() }
     }
 
+    /// The same shapes with ids.
+    pub fn with_ids(self, random: &Random) -> List<WORDS_OF_BIN> {
+        let with_id = |(times, words)| (times, bin_words(words, generate::listed_id(random)));
+        List { shapes: self.shapes.into_iter().map(with_id).collect(), rest: self.rest }
+    }
+}
+
+impl<const WORDS: usize> List<WORDS> {
     /// The list with a fault: a wrong kind, a word that is not zero where the kind has no vertex, or a part of a shape.
-    pub fn with_fault(mut self, random: &Random) -> List {
+    pub fn with_fault(mut self, random: &Random) -> Self {
         let shapes = self.shapes.len() as u32;
         let fault = random.below(3);
         if shapes == 0 || fault == 0 {
-            let part = words_of(&shape(random, self.screen));
-            self.rest = part[..1 + random.below(6) as usize].to_vec();
+            let part = random.pick(&[COVERING, POINT]);
+            self.rest = part[..1 + random.below(WORDS as u32 - 1) as usize].to_vec();
             return self;
         }
         let place = random.pick(&[random.below(shapes), shapes - 1]) as usize;
         let (times, words) = &mut self.shapes[place];
         *times = 1;
         if fault == 1 {
-            *words = random.pick(&[*words, [0; WORDS_OF_SHAPE]]);
+            *words = random.pick(&[*words, [0; WORDS]]);
             words[0] = wrong_kind(random);
         } else {
             words[0] = words[0].min(random.pick(&[1, 2]));
             let first_unused = 1 + 2 * words[0] as usize;
-            words[first_unused..].fill(0);
+            words[first_unused..WORDS_OF_SHAPE].fill(0);
             words[first_unused + random.below((WORDS_OF_SHAPE - first_unused) as u32) as usize] = not_zero(random);
         }
         self
+    }
+
+    /// How many whole shapes the list has.
+    pub fn shape_count(&self) -> usize {
+        self.shapes.iter().map(|(times, _)| times).sum()
     }
 
     /// The words of the list.
@@ -132,32 +163,12 @@ impl List {
         list
     }
 
-    /// Counts the list on the archive and on the model, compares every value, and sees that no word of it was written.
-    pub fn count(&self) -> Result<Answer<Overlaps>, String> {
-        let list = self.words();
-        let archive = raw::overlaps(screen_of(self.screen), &list);
-        let model = match overlaps(self.screen, &list) {
-            Ok(totals) => Answer { number: number::DONE, values: overlaps_of(totals) },
-            Err(number) => Answer { number, values: overlaps_of(Totals::default()) },
-        };
-        if archive != model {
-            return Err(format!("the archive gives {archive:?}, the model {model:?}"));
-        }
-        if std::hint::black_box(&list) != &self.words() {
-            return Err("a word of the list was written".into());
-        }
-        Ok(archive)
-    }
-
-    /// Lists with fewer or smaller shapes, fewer words past them, or a smaller screen.
-    pub fn smaller(&self) -> Vec<List> {
+    /// Lists with fewer or smaller shapes, or fewer words past them.
+    pub fn smaller(&self) -> Vec<Self> {
         let with_shapes = |shapes| List { shapes, ..self.clone() };
         let mut all: Vec<_> = fewer(&self.shapes).into_iter().map(with_shapes).collect();
         all.extend(fewer(&self.rest).into_iter().map(|rest| List { rest, ..self.clone() }));
-        if self.screen.allowed() {
-            all.extend(smaller::screens(self.screen).into_iter().map(|screen| List { screen, ..self.clone() }));
-        }
-        let smaller = |&(times, words): &(usize, Words)| {
+        let smaller = |&(times, words): &(usize, [i32; WORDS])| {
             let fewer = [1, times / 2, times - 1].into_iter().filter(|fewer| (1..times).contains(fewer));
             let smaller = smaller_words(&words).into_iter().map(|words| (times, words));
             fewer.map(|fewer| (fewer, words)).chain(smaller).collect()
@@ -167,10 +178,48 @@ impl List {
     }
 }
 
-/// Smaller shapes or, where the words have a fault, words nearer to zero.
-fn smaller_words(words: &Words) -> Vec<Words> {
-    match faults(words).next() {
-        None => smaller::shapes(&vertices(words)).iter().map(|shape| words_of(shape)).collect(),
-        Some(_) => each(words, |&word| nearer_zero(word)).into_iter().map(|words| words.try_into().unwrap()).collect(),
+impl OnScreen {
+    /// Counts the list on the archive and on the model, compares every value, and sees that no word of it was written.
+    pub fn count(&self) -> Result<Answer<Overlaps>, String> {
+        let list = self.list.words();
+        let archive = raw::overlaps(screen_of(self.screen), &list);
+        let model = match overlaps(self.screen, &list) {
+            Ok(totals) => Answer { number: number::DONE, values: overlaps_of(totals) },
+            Err(number) => Answer { number, values: overlaps_of(Totals::default()) },
+        };
+        if archive != model {
+            return Err(format!("the archive gives {archive:?}, the model {model:?}"));
+        }
+        if std::hint::black_box(&list) != &self.list.words() {
+            return Err("a word of the list was written".into());
+        }
+        Ok(archive)
     }
+
+    /// A smaller list, or a smaller screen.
+    pub fn smaller(&self) -> Vec<OnScreen> {
+        let &OnScreen { screen, ref list } = self;
+        let mut all: Vec<_> = list.smaller().into_iter().map(|list| OnScreen { screen, list }).collect();
+        if screen.allowed() {
+            all.extend(smaller::screens(screen).into_iter().map(|screen| OnScreen { screen, ..self.clone() }));
+        }
+        all
+    }
+}
+
+/// Smaller shapes and numbers nearer to zero past them or, where the words have a fault, all words nearer to zero.
+fn smaller_words<const WORDS: usize>(words: &[i32; WORDS]) -> Vec<[i32; WORDS]> {
+    let from = |place: usize| {
+        let nearer = each(&words[place..], |&word| nearer_zero(word)).into_iter();
+        nearer.map(move |rest| [&words[..place], &rest[..]].concat().try_into().unwrap())
+    };
+    if faults(words, WORDS).next().is_some() {
+        return from(0).collect();
+    }
+    let with_shape = |shape: Vec<Vertex>| {
+        let mut other = *words;
+        other[..WORDS_OF_SHAPE].copy_from_slice(&words_of(&shape));
+        other
+    };
+    smaller::shapes(&vertices(words)).into_iter().map(with_shape).chain(from(WORDS_OF_SHAPE)).collect()
 }

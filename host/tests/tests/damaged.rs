@@ -9,6 +9,7 @@ use model::number;
 use model::pool::{State, MOST_BLOCKS, MOST_ID, POISON};
 use model::screen::Screen;
 use tests::call::{Call, Slot};
+use tests::draw::Draw;
 use tests::generate::{self, bad_layouts};
 use tests::hold::{hold, Case};
 use tests::random::Random;
@@ -118,6 +119,7 @@ impl Case for Damaged {
             0 => middle,
             1 => last,
             2 => past,
+            3 => Call::BinList(Draw::make(random, state.screen, 4)),
             _ => Call::make(random, state.layout, state.screen),
         };
         Damaged { state, changes, length, call }
@@ -159,6 +161,8 @@ impl Case for Damaged {
 struct Reached {
     /// sound still, or the first fault found
     verdicts: BTreeMap<String, u64>,
+    /// the same of the pools on which a list of shapes was binned
+    with_list: BTreeMap<String, u64>,
     /// the most blocks that a chain had
     chain: usize,
     /// how many have 4,096 tiles and 2,048 blocks
@@ -169,8 +173,11 @@ struct Reached {
 fn the_audit_says_yes_exactly_for_sound_pools() {
     let mut reached: BTreeMap<Layout, Reached> = BTreeMap::new();
     let mut cut = 0;
-    hold(0xF100_0003, 400_000, |Damaged { state, .. }: &Damaged, verdict| {
+    hold(0xF100_0003, 400_000, |Damaged { state, call, .. }: &Damaged, verdict| {
         let reached = reached.entry(state.layout).or_default();
+        if matches!(call, Call::BinList(_)) {
+            *reached.with_list.entry(verdict.clone()).or_default() += 1;
+        }
         *reached.verdicts.entry(verdict).or_default() += 1;
         reached.chain = reached.chain.max(state.longest_chain());
         reached.largest += u32::from(state.tiles.len() == 4096 && state.blocks == 2048);
@@ -179,9 +186,11 @@ fn the_audit_says_yes_exactly_for_sound_pools() {
     reached.iter().for_each(|(layout, reached)| println!("{layout:?}: {reached:?}"));
     println!("{cut} pools are for screens cut on both axes");
     assert_eq!(reached.len(), LAYOUTS.len());
-    for Reached { verdicts, chain, largest } in reached.into_values() {
+    for Reached { verdicts, with_list, chain, largest } in reached.into_values() {
         assert_eq!(verdicts.len(), 11, "each sentence should be broken, and some pools be sound still");
         assert!(verdicts.values().all(|&pools| pools > 500), "each often");
+        assert_eq!(with_list.len(), 11, "for lists of shapes too");
+        assert!(with_list.values().all(|&pools| pools > 50), "each often");
         assert!(chain > 40 && largest > 20, "long chains and largest pools should be there");
     }
     assert!(cut > 100_000, "screens that are cut on both axes should be common");

@@ -1,15 +1,16 @@
-//! What document 01 and requests P1, P2, P8 and P12 list, by the wrapper.
+//! What document 01 and requests P1, P2, P4, P8 and P12 list, by the wrapper.
 
 use flourscoop::{
-    box_touches, corner_touches, list_of, overlaps, room, room_two, unit, Binned, Overlaps, Pixel, Pool, Refusal,
-    Shape, Vertex,
+    bin_list_of, box_touches, corner_touches, list_of, overlaps, refused, room, room_two, unit, Binned, Overlaps,
+    Pixel, Pool, Refusal, Shape, Vertex, BIN_WORDS,
 };
-use model::layout::Layout;
-use model::listed::{Listed, LISTED};
+use model::layout::{Layout, LAYOUTS};
+use model::listed::{Drawn, Listed, DRAWN, LISTED};
 use model::marked::{Cut, Marked, PoolCase, CUT, MARKED, POOL_CASES, SCREEN};
+use model::pool::MOST_ID;
 use model::screen::Screen;
 use model::unit::TABLE;
-use tests::call::{screen_of, shape_of};
+use tests::call::{self, screen_of, shape_of};
 use tests::list::overlaps_of;
 
 const fn point(x: i32, y: i32) -> Shape<Vertex> {
@@ -75,6 +76,67 @@ fn lists_of_shapes() {
         assert_eq!(overlaps(screen, list).map_err(Refusal::number), totals.map(overlaps_of), "{name}");
         assert_eq!(overlaps(flourscoop::Screen { s: 7, ..screen }, list), Err(Refusal::Screen), "{name}");
     }
+}
+
+/// The words of a pool for the screen of the marked cases, opened.
+fn opened(layout: Layout, blocks: u32) -> Vec<u32> {
+    let mut words = vec![0; layout.room(SCREEN, blocks)];
+    call::open(&mut words, layout, SCREEN, blocks).done().unwrap();
+    words
+}
+
+/// The list of each tile of the screen of the marked cases.
+fn lists(pool: &Pool) -> Vec<Vec<u32>> {
+    (0..SCREEN.tiles()).map(|tile| (0..).map_while(|place| pool.read(tile, place).ok()).collect()).collect()
+}
+
+#[test]
+fn lists_with_ids() {
+    for layout in LAYOUTS {
+        for Drawn { name, blocks, list, answers, lists: listed } in DRAWN {
+            let mut words = opened(layout, blocks);
+            let mut pool = Pool::over(&mut words);
+            let mut bytes = vec![0xAA; list.len() / BIN_WORDS + 2];
+            assert_eq!(pool.bin_list(list, &mut bytes).map_err(Refusal::number), answers.map(|_| ()), "{name}");
+            let answers = answers.unwrap_or(&[]);
+            assert_eq!(bytes[..answers.len()], *answers, "{name}");
+            assert!(bytes[answers.len()..].iter().all(|&byte| byte == 0xAA), "{name}");
+            assert_eq!(lists(&pool), listed, "{name}");
+        }
+    }
+}
+
+/// The marked cases as one list are in the tiles that the table has for each, in rising id.
+#[test]
+fn the_cases_as_a_list_with_ids() {
+    let list = bin_list_of((0..).zip(MARKED.iter().map(|case| shape_of(case.shape))));
+    let in_tile = |tile: u32| (0..).zip(&MARKED).filter(move |(_, case)| case.tiles.contains(&tile));
+    let listed: Vec<Vec<u32>> = (0..8).map(|tile| in_tile(tile).map(|(id, _)| id).collect()).collect();
+    for layout in LAYOUTS {
+        let mut words = opened(layout, 8);
+        let mut pool = Pool::over(&mut words);
+        let mut answers = [0xAA; MARKED.len()];
+        assert_eq!(pool.bin_list(&list, &mut answers), Ok(()));
+        assert_eq!((answers, lists(&pool)), ([0; MARKED.len()], listed.clone()));
+    }
+}
+
+/// Every id, in a list or by itself, gets the same answer.
+#[test]
+fn an_id_goes_to_a_list_as_it_goes_to_a_bin() {
+    let ids = [0, 1, MOST_ID, MOST_ID + 1, 1 << 31, (1 << 31) - 1, 0xDEAD_BEEF, u32::MAX];
+    let list = bin_list_of(ids.map(|id| (id, point(0, 0))));
+    let (mut words, mut single) = (opened(Layout::One, 1), opened(Layout::One, 1));
+    let mut answers = [0xAA; 8];
+    Pool::over(&mut words).bin_list(&list, &mut answers).unwrap();
+    let alone = (0..).zip(ids).filter_map(|(place, id)| {
+        let refusal = Pool::over(&mut single).bin(id, point(0, 0)).err()?;
+        Some((place, refusal))
+    });
+    let expected = [3, 4, 5, 6, 7].map(|place| (place, Refusal::Id));
+    assert_eq!(alone.collect::<Vec<_>>(), expected);
+    assert_eq!(refused(&answers).collect::<Vec<_>>(), expected);
+    assert_eq!(words, single);
 }
 
 #[test]

@@ -1,10 +1,11 @@
 //! The C header says what the wrapper and the model say: numbers, texts, limits, version, declarations and examples.
 
 use flourscoop::{Refusal, Shape, Vertex};
-use model::layout::Layout;
+use model::layout::{Layout, LAYOUTS};
 use model::marked::SCREEN;
-use model::overlaps::{overlaps, Totals, MOST_SHAPES, WORDS_OF_SHAPE};
+use model::overlaps::{overlaps, Totals};
 use model::pool::{State, POISON};
+use model::shapes::{MOST_SHAPES, WORDS_OF_BIN, WORDS_OF_SHAPE};
 
 const HEADER: &str = include_str!("../../include/flourscoop.h");
 const WRAPPER: &str = include_str!("../../flourscoop/src/raw.rs");
@@ -27,8 +28,8 @@ fn texts() -> Vec<(&'static str, &'static str)> {
 #[test]
 fn numbers_and_texts_are_the_wrapper_s() {
     let texts = texts();
-    assert_eq!(texts.len(), 12);
-    for (number, (name, text)) in (0..=10).chain([15]).zip(texts) {
+    assert_eq!(texts.len(), 13);
+    for (number, (name, text)) in (0..=11).chain([15]).zip(texts) {
         assert_eq!(defined(name), format!("{number}u"), "{name}");
         match number {
             0 => assert_eq!((name, text), ("FLOURSCOOP_DONE", "done")),
@@ -39,13 +40,15 @@ fn numbers_and_texts_are_the_wrapper_s() {
             }
         }
     }
-    assert_eq!([0, 11, 14, 16, u32::MAX].map(Refusal::of), [None; 5]);
+    assert_eq!([0, 12, 14, 16, u32::MAX].map(Refusal::of), [None; 5]);
 }
 
 #[test]
 fn the_limits_of_a_list_are_the_wrapper_s_and_the_model_s() {
     assert_eq!((flourscoop::SHAPE_WORDS, flourscoop::MOST_SHAPES), (WORDS_OF_SHAPE, MOST_SHAPES));
+    assert_eq!(flourscoop::BIN_WORDS, WORDS_OF_BIN);
     assert_eq!(defined("FLOURSCOOP_SHAPE_WORDS"), format!("{WORDS_OF_SHAPE}u"));
+    assert_eq!(defined("FLOURSCOOP_BIN_WORDS"), format!("{WORDS_OF_BIN}u"));
     assert_eq!(defined("FLOURSCOOP_MOST_SHAPES"), format!("{MOST_SHAPES}u"));
     let origin = Vertex { x: 0, y: 0 };
     for (name, shape) in [
@@ -71,8 +74,14 @@ fn declarations(text: &'static str, start: &str) -> Vec<&'static str> {
 }
 
 /// The types of the header, and of the wrapper.
-const TYPES: [(&str, &str); 5] =
-    [("uint32_t", "u32"), ("int32_t", "i32"), ("uint64_t", "u64"), ("size_t", "usize"), ("float", "f32")];
+const TYPES: [(&str, &str); 6] = [
+    ("uint32_t", "u32"),
+    ("int32_t", "i32"),
+    ("uint64_t", "u64"),
+    ("uint8_t", "u8"),
+    ("size_t", "usize"),
+    ("float", "f32"),
+];
 
 /// A parameter of the header as the wrapper has it.
 fn in_rust(parameter: &str) -> String {
@@ -100,7 +109,7 @@ fn the_declarations_are_the_wrapper_s() {
     let mut wrapper: Vec<String> = declarations(WRAPPER, "    fn ").into_iter().map(one_line).collect();
     header.sort();
     wrapper.sort();
-    assert_eq!(header.len(), 20);
+    assert_eq!(header.len(), 21);
     assert_eq!(header, wrapper);
 }
 
@@ -141,21 +150,28 @@ fn the_examples_are_the_model_s() {
     assert_eq!(examples(), [Layout::One, Layout::Two { block_words: 64 }].map(binned));
 }
 
-/// The lines of the header's example of a list that begin with this word, without it.
+/// The lines of the header's examples of lists that begin with this word, without it.
 fn list_example(word: &str) -> impl Iterator<Item = &'static str> {
     let start = format!(" *     {word} ");
     HEADER.lines().filter_map(move |line| line.strip_prefix(&start))
 }
 
-#[test]
-fn the_totals_of_the_example_are_the_model_s() {
-    let mut list: Vec<i32> = Vec::new();
-    for (place, line) in list_example("place").enumerate() {
+/// The list that these lines say, each a place and the words of the shape there; and what each says next.
+fn listed_in_lines(word: &str) -> (Vec<i32>, Vec<&'static str>) {
+    let (mut list, mut next) = (Vec::new(), Vec::new());
+    for (place, line) in list_example(word).enumerate() {
         let (said, rest) = line.split_once("    ").unwrap();
         assert_eq!(said.parse(), Ok(place), "{line}");
-        let (words, _) = rest.split_once("  ").unwrap();
+        let (words, rest) = rest.split_once("  ").unwrap();
         list.extend(words.split(", ").map(|word| word.parse::<i32>().unwrap()));
+        next.push(rest.trim());
     }
+    (list, next)
+}
+
+#[test]
+fn the_totals_of_the_example_are_the_model_s() {
+    let (list, _) = listed_in_lines("place");
     let Totals { shapes, out_of_range, box_tiles, touched_tiles, difference, largest, place } =
         overlaps(SCREEN, &list).unwrap();
     let totals = format!(
@@ -164,4 +180,18 @@ fn the_totals_of_the_example_are_the_model_s() {
     );
     assert_eq!(list_example("totals").map(str::trim).collect::<Vec<_>>(), [totals]);
     assert_eq!((shapes, out_of_range), (4, 1));
+}
+
+#[test]
+fn the_answers_of_the_example_are_the_model_s() {
+    let (list, said) = listed_in_lines("shape");
+    let answers: Vec<u8> = said.iter().map(|said| said.split_once("  ").unwrap().0.parse().unwrap()).collect();
+    for layout in LAYOUTS {
+        let mut pool = State::opened(layout, SCREEN, 4);
+        assert_eq!(pool.bin_list(&list, answers.len()), Ok(answers.clone()), "{layout:?}");
+        let lists: Vec<&[u32]> = pool.tiles.iter().map(|tile| &tile.ids[..]).collect();
+        assert_eq!(lists, [&[7, 9, 12][..], &[9, 12], &[], &[], &[9], &[9], &[], &[]], "{layout:?}");
+    }
+    assert_eq!(answers, [0, 8, 0, 8, 5, 7, 0]);
+    assert!(HEADER.contains("Tile 0 has the list 7, 9, 12, tile 1 has 9, 12, and tiles 4 and 5 have 9."));
 }

@@ -1,6 +1,7 @@
 //! How many blocks a list of calls needs, in each layout. As many as its marks ask for are enough; as many as were in use at
 //! once are just enough.
 
+use std::borrow::Cow;
 use std::collections::BTreeMap;
 
 use flourscoop::raw;
@@ -8,6 +9,7 @@ use model::layout::{Layout, LAYOUTS};
 use model::number;
 use model::pool::MOST_BLOCKS;
 use model::screen::Screen;
+use tests::answers::{less_no_room, no_room};
 use tests::call::{Blocks, Call, Outcome, Repeated, Slot};
 use tests::generate::{self, cut_screens};
 use tests::hold::{hold, Case};
@@ -29,6 +31,13 @@ struct Needs {
     at_once: u32,
 }
 
+/// A call for which there was room, less the shapes of its list that had none; its outcome, and its answers to a list.
+struct Made<'a> {
+    call: Cow<'a, Call>,
+    outcome: Outcome,
+    answers: Vec<u8>,
+}
+
 /// The mark of each tile, as the archive tells it.
 fn marks(slot: &Slot) -> Vec<u32> {
     (0..).map_while(|tile| raw::high_water(&slot.words, tile).done().ok()).map(|[mark]| mark).collect()
@@ -45,15 +54,18 @@ impl List {
 
     /// Whether a pool with so many blocks gives these calls these answers, and has these marks in the end. Where not, it has
     /// refused one for room.
-    fn enough(&self, blocks: u32, made: &[(&Call, Outcome)], all_marks: &[u32]) -> Result<bool, String> {
+    fn enough(&self, blocks: u32, made: &[Made], all_marks: &[u32]) -> Result<bool, String> {
         let mut slot = self.opened(blocks);
-        for &(call, answer) in made {
+        for Made { call, outcome, answers } in made {
             let other = slot.call(call)?;
-            if other[0] == number::NO_ROOM {
+            let others = slot.answers.given();
+            if other[0] == number::NO_ROOM || others.iter().any(|&answer| no_room(answer)) {
                 return Ok(false);
             }
-            if other != answer {
-                return Err(format!("{call:?}: with {blocks} blocks {other:?}, with {MOST_BLOCKS} {answer:?}"));
+            if other != *outcome || others != *answers {
+                return Err(format!(
+                    "{call:?}: with {blocks} blocks {other:?} {others:?}, with {MOST_BLOCKS} {outcome:?} {answers:?}"
+                ));
             }
         }
         if marks(&slot) != all_marks {
@@ -98,9 +110,10 @@ impl Case for List {
         let mut largest = self.opened(MOST_BLOCKS);
         let (mut made, mut at_once) = (Vec::new(), 0);
         for call in Repeated::each(&self.calls) {
-            let answer = largest.on_archive(call);
-            if answer[0] != number::NO_ROOM {
-                made.push((call, answer));
+            let outcome = largest.on_archive(call);
+            let answers = largest.answers.given();
+            if outcome[0] != number::NO_ROOM {
+                made.push(Made { call: call.less_no_room(&answers), outcome, answers: less_no_room(&answers) });
             }
             at_once = at_once.max(MOST_BLOCKS - largest.words[4]);
         }
@@ -122,16 +135,20 @@ impl Case for List {
 
 #[test]
 fn as_many_blocks_as_the_marks_ask_for_are_enough() {
-    let mut seen: BTreeMap<Layout, [u32; 3]> = BTreeMap::new();
+    let mut seen: BTreeMap<Layout, [u32; 4]> = BTreeMap::new();
     hold(0xF100_0006, 1000, |list: &List, needs| {
-        let [tight, loose, most] = seen.entry(list.layout).or_default();
+        let [tight, loose, most, with_lists] = seen.entry(list.layout).or_default();
         *tight += u32::from(needs.by_marks == needs.at_once && needs.at_once > 0);
         *loose += u32::from(needs.by_marks > needs.at_once);
         *most = needs.by_marks.max(*most);
+        *with_lists += u32::from(list.calls.iter().any(|Repeated(_, call)| matches!(call, Call::BinList(_))));
     });
-    println!("lists that need what the marks ask for, lists that need less, and the most blocks asked for: {seen:?}");
+    println!(
+        "lists that need what the marks ask for or less, the most blocks asked for, lists with draw calls: {seen:?}"
+    );
     assert_eq!(seen.len(), LAYOUTS.len());
-    for [tight, loose, most] in seen.into_values() {
+    for [tight, loose, most, with_lists] in seen.into_values() {
+        assert!(with_lists > 100, "draw calls should be common");
         assert!(tight > 100, "a block less than the marks ask for should often be refused");
         assert!(loose > 60, "lists that give blocks back should be common");
         assert!(most > 100, "some lists should fill many tiles");

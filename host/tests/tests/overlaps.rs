@@ -6,21 +6,22 @@ use std::collections::BTreeMap;
 use flourscoop::raw::{self, Answer};
 use flourscoop::{box_touches, corner_touches, Overlaps, Pool, Refusal};
 use model::number;
-use model::overlaps::{faults, vertices, Fault, Totals, MOST_SHAPES, WORDS_OF_SHAPE};
+use model::overlaps::Totals;
 use model::screen::Screen;
+use model::shapes::{faults, vertices, Fault, MOST_SHAPES, WORDS_OF_SHAPE};
 use model::touch::in_range;
 use model::Vertex;
 use tests::call::{screen_of, shape_of};
 use tests::generate;
 use tests::hold::{hold, Case};
-use tests::list::{overlaps_of, List, Words, COVERING};
+use tests::list::{overlaps_of, List, OnScreen, Words, COVERING, POINT};
 use tests::random::Random;
 use tests::smaller::lower;
 use tests::square::squares_touched;
 
 /// A list with or without a fault, on a screen within the rules or not.
 #[derive(Clone, Debug)]
-struct Counted(List);
+struct Counted(OnScreen);
 
 impl Case for Counted {
     type Seen = Answer<Overlaps>;
@@ -33,12 +34,13 @@ impl Case for Counted {
         };
         let list = List::make(random, screen, most);
         let bad_screen = generate::bad_screen(random);
-        Counted(match random.below(8) {
-            0 => List { screen: bad_screen, ..list },
-            1 => List { screen: bad_screen, ..list.with_fault(random) },
-            2 | 3 => list.with_fault(random),
-            _ => list,
-        })
+        let (screen, list) = match random.below(8) {
+            0 => (bad_screen, list),
+            1 => (bad_screen, list.with_fault(random)),
+            2 | 3 => (screen, list.with_fault(random)),
+            _ => (screen, list),
+        };
+        Counted(OnScreen { screen, list })
     }
 
     fn smaller(&self) -> Vec<Counted> {
@@ -78,10 +80,10 @@ struct Reached {
 }
 
 impl Reached {
-    fn add(&mut self, list: &List, answer: Answer<Overlaps>) {
+    fn add(&mut self, case: &OnScreen, answer: Answer<Overlaps>) {
         *self.numbers.entry(answer.number).or_default() += 1;
-        let words = list.words();
-        let faults: Vec<Fault> = faults(&words).collect();
+        let words = case.list.words();
+        let faults: Vec<Fault> = faults(&words, WORDS_OF_SHAPE).collect();
         if answer.number == number::SCREEN {
             self.both += u64::from(!faults.is_empty());
             return;
@@ -100,9 +102,9 @@ impl Reached {
         self.nothing_touched += u64::from(shapes > 0 && largest == 0 && place > 0);
         self.later += u64::from(largest > 0 && place > 0);
         self.false_overlaps += u64::from(difference > 0);
-        self.largest_screens += u64::from(list.screen.tiles() == 4096);
+        self.largest_screens += u64::from(case.screen.tiles() == 4096);
         if shapes == 1 && words.len() == WORDS_OF_SHAPE {
-            self.cut += u64::from(touched_tiles < squares_touched(list.screen, &vertices(&words)).into());
+            self.cut += u64::from(touched_tiles < squares_touched(case.screen, &vertices(&words)).into());
         }
     }
 }
@@ -136,7 +138,7 @@ fn totals_and_refusals_are_the_model_s() {
 /// A list without a fault, and the place before which it is parted.
 #[derive(Clone, Debug)]
 struct Parted {
-    list: List,
+    whole: OnScreen,
     place: u32,
 }
 
@@ -182,7 +184,7 @@ fn by_other_calls(screen: Screen, shape: &[Vertex]) -> Result<Option<[u32; 2]>, 
 impl Parted {
     /// The totals that the other calls give, and how many shapes touch as many tiles as the largest.
     fn by_other_calls(&self, words: &[i32]) -> Result<(Overlaps, usize), String> {
-        let shapes = words.chunks(WORDS_OF_SHAPE).map(|words| by_other_calls(self.list.screen, &vertices(words)));
+        let shapes = words.chunks(WORDS_OF_SHAPE).map(|words| by_other_calls(self.whole.screen, &vertices(words)));
         let shapes = shapes.collect::<Result<Vec<_>, String>>()?;
         let in_range: Vec<(u32, [u32; 2])> =
             (0..).zip(&shapes).filter_map(|(place, tiles)| Some((place, (*tiles)?))).collect();
@@ -209,21 +211,21 @@ impl Case for Parted {
     fn make(random: &Random, place: u64) -> Parted {
         let screen = generate::screen(random, if place % 50 == 0 { 40 } else { 5 });
         let list = List::make(random, screen, 8);
-        let shapes: usize = list.shapes.iter().map(|(times, _)| times).sum();
-        Parted { list, place: random.below(shapes as u32 + 1) }
+        let place = random.below(list.shape_count() as u32 + 1);
+        Parted { whole: OnScreen { screen, list }, place }
     }
 
     fn smaller(&self) -> Vec<Parted> {
         let mut all: Vec<_> = lower(self.place).into_iter().map(|place| Parted { place, ..self.clone() }).collect();
-        all.extend(self.list.smaller().into_iter().map(|list| Parted { list, ..*self }));
+        all.extend(self.whole.smaller().into_iter().map(|whole| Parted { whole, ..*self }));
         all
     }
 
     /// The totals of the whole are those of its parts together, and those that the other calls give.
     fn run(&self) -> Result<Parts, String> {
-        let words = self.list.words();
+        let words = self.whole.list.words();
         let totals =
-            |list| raw::overlaps(screen_of(self.list.screen), list).done().map_err(|refusal| refusal.to_string());
+            |list| raw::overlaps(screen_of(self.whole.screen), list).done().map_err(|refusal| refusal.to_string());
         let (one, two) = words.split_at(words.len().min(WORDS_OF_SHAPE * self.place as usize));
         let parted = joined(totals(one)?, self.place, totals(two)?);
         let whole = totals(&words)?;
@@ -250,14 +252,13 @@ fn totals_are_those_of_the_parts_and_of_the_other_calls() {
 }
 
 const ONE_TILE: Screen = Screen { width: 8, height: 8, s: 3 };
-const POINT: Words = [1, 5, 5, 0, 0, 0, 0];
 const OFF_SCREEN: Words = [2, -1, 0, -1, 128, 0, 0];
 const OUT_OF_RANGE: Words = [3, 0, 0, 0, 0, 0, 262_144];
 
 /// Counts, by the archive and the model, a list on a screen of one tile, and expects this answer.
 fn expect(shapes: &[(usize, Words)], rest: &[i32], answer: Answer<Overlaps>) {
-    let list = List { screen: ONE_TILE, shapes: shapes.to_vec(), rest: rest.to_vec() };
-    assert_eq!(list.count(), Ok(answer), "{list:?}");
+    let case = OnScreen { screen: ONE_TILE, list: List { shapes: shapes.to_vec(), rest: rest.to_vec() } };
+    assert_eq!(case.count(), Ok(answer), "{case:?}");
 }
 
 /// The number, and zero for each value.
@@ -317,7 +318,7 @@ fn a_fault_in_the_first_or_the_last_of_1048576_shapes_is_found() {
 /// all, so many fewer.
 fn expect_most(last: Words, fewer: u64) {
     let screen = Screen { width: 4096, height: 4096, s: 6 };
-    let list = List { screen, shapes: vec![(MOST_SHAPES - 1, COVERING), (1, last)], rest: Vec::new() };
+    let list = List { shapes: vec![(MOST_SHAPES - 1, COVERING), (1, last)], rest: Vec::new() };
     let totals = Overlaps {
         shapes: 1 << 20,
         out_of_range: 0,
@@ -327,7 +328,8 @@ fn expect_most(last: Words, fewer: u64) {
         largest: 4096,
         place: 0,
     };
-    assert_eq!(list.count(), Ok(Answer { number: number::DONE, values: totals }));
+    let case = OnScreen { screen, list };
+    assert_eq!(case.count(), Ok(Answer { number: number::DONE, values: totals }));
 }
 
 /// The most that a total can be, and the only one that 32 bits do not hold.

@@ -1,5 +1,5 @@
 //! Mixed calls on two pools of different sizes, in each layout: every answer and every word against the model, every mark
-//! against the lengths that its list had, and demand 3.
+//! against the lengths that its list had, and demand 3, in which a list of shapes counts as its single bins.
 
 use std::collections::BTreeMap;
 
@@ -7,6 +7,7 @@ use model::layout::{Layout, LAYOUTS};
 use model::number;
 use model::pool::{State, POISON};
 use model::screen::Screen;
+use tests::answers::{less_no_room, runs_out};
 use tests::call::{Blocks, Call, Outcome, Repeated, Slot};
 use tests::generate::{self, cut_screens, rarest_cut};
 use tests::hold::{hold, Case};
@@ -70,6 +71,8 @@ impl Sizes {
 struct Seen {
     /// the answers of the first pool
     answers: Vec<Outcome>,
+    /// how many lists of shapes ran out of room in the middle there
+    run_out: u64,
     /// the most blocks that a chain had, in either pool
     chain: usize,
     /// after how many calls a list of the first pool was shorter than it had been
@@ -111,18 +114,24 @@ impl Case for Sequence {
         all
     }
 
-    /// Makes each call on the first pool and, unless that has no room for it (3 or 8), on the second; then reads the longest
-    /// list of each.
+    /// Makes each call on the first pool and, unless that has no room for it (3 or 8), on the second, a list of shapes less
+    /// those that the first has no room for; then reads the longest list of each.
     fn run(&self) -> Result<Seen, String> {
         let [mut first, mut second] = [0, 1].map(|pool| Watched::over(self.slot(pool)));
-        let mut seen = Seen { answers: Vec::new(), chain: 0, shorter: 0 };
+        let mut seen = Seen { answers: Vec::new(), run_out: 0, chain: 0, shorter: 0 };
         for call in Repeated::each(&self.calls) {
             let answer = first.call(call).map_err(|wrong| format!("first pool: {wrong}"))?;
+            let listed = first.slot.answers.given();
             seen.answers.push(answer);
+            seen.run_out += u64::from(runs_out(&listed));
             if ![number::SHORT, number::NO_ROOM].contains(&answer[0]) {
-                let shared = second.call(call).map_err(|wrong| format!("second pool: {wrong}"))?;
-                if shared != answer {
-                    return Err(format!("{call:?}: the first pool answers {answer:?}, the second {shared:?}"));
+                let with_room = call.less_no_room(&listed);
+                let shared = second.call(&with_room).map_err(|wrong| format!("second pool: {wrong}"))?;
+                let also_listed = second.slot.answers.given();
+                if shared != answer || also_listed != less_no_room(&listed) {
+                    return Err(format!(
+                        "{call:?}: the first pool answers {answer:?} {listed:?}, the second {shared:?} {also_listed:?}"
+                    ));
                 }
             }
             self.agree(&first.slot, &second.slot).map_err(|wrong| format!("after {call:?}: {wrong}"))?;
@@ -210,7 +219,9 @@ impl Sequence {
 #[derive(Default, Debug)]
 struct Reached {
     /// the calls on the first pool, by the number that they return
-    numbers: [u64; 11],
+    numbers: BTreeMap<u32, u64>,
+    /// how many lists of shapes ran out of room in the middle
+    run_out: u64,
     /// the most blocks that a chain had
     chain: usize,
     /// how many have a second pool with 4,096 tiles and 2,048 blocks
@@ -225,7 +236,8 @@ fn two_pools_answer_and_hold_as_the_model() {
     let (mut cut, mut in_fewer_tiles, mut screens) = (0, 0, Vec::new());
     hold(0xF100_0002, 30_000, |case: &Sequence, seen: Seen| {
         let reached = reached.entry(case.layout).or_default();
-        seen.answers.iter().for_each(|answer| reached.numbers[answer[0] as usize] += 1);
+        seen.answers.iter().for_each(|answer| *reached.numbers.entry(answer[0]).or_default() += 1);
+        reached.run_out += seen.run_out;
         reached.chain = reached.chain.max(seen.chain);
         reached.largest += u32::from(case.screen.tiles() == 4096 && case.blocks[1] == 2048);
         reached.shorter += seen.shorter;
@@ -240,8 +252,10 @@ fn two_pools_answer_and_hold_as_the_model() {
     println!("{cut} sequences are on screens cut on both axes; each of the cut screens comes {rarest} times or more");
     println!("{in_fewer_tiles} shapes on these were listed in fewer tiles than full squares would have it");
     assert_eq!(reached.len(), LAYOUTS.len());
-    for Reached { numbers, chain, largest, shorter } in reached.into_values() {
-        assert!(numbers.iter().all(|&calls| calls > 500), "each number should be returned often");
+    for Reached { numbers, run_out, chain, largest, shorter } in reached.into_values() {
+        assert!(numbers.keys().copied().eq((0..=11).chain([15])), "each number should be returned");
+        assert!(numbers.values().all(|&calls| calls > 500), "and often");
+        assert!(run_out > 500, "lists should often run out of room in the middle");
         assert!(chain > 40 && largest > 1, "long chains and largest pools should be there");
         assert!(shorter > 60_000, "lists should often be shorter than they had been");
     }

@@ -13,7 +13,7 @@ use Rattle.pool.specs.Sound.{Sound}
 use Rattle.calls.specs.BinList.{idAt, OneByOne, BinListSays, damaged, bad-list, too-few, done}
 use Rattle.demands.specs.History.{Entry, binned, binned-pixels, found, released, Step, Run, callsOf, lessRoom}
 use Rattle.demands.specs.Room.{roomOf, SameRoom}
-use Rattle.demands.specs.Demand1.{Among, Outside, Demand1}
+use Rattle.demands.specs.Demand1.{Among, Outside}
 use Rattle.demands.specs.Demand2.{StaysSound, Demand2Bin, Demand2Pixels, Demand2Release}
 use Rattle.demands.specs.Demand3.{Openings, Demand3}
 

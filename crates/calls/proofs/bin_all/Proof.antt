@@ -1,11 +1,10 @@
 -- `calls::bin_all` meets its contract: the shapes passed are binned one by one, and the words are still a sound pool of the header.
-use mathlib.Core.Path.{_≡_, refl, sym, ap, subst, _∙_}
+use mathlib.Core.Path.{_≡_, refl, ap, subst, _∙_}
 use Prim.Native.Nat.{ℕ, _+_, _*_, _-_, _≤_, _<_}
 use native.Mathlib.Omega.{arith}
 use native.Mathlib.Nat.{div-add-mod'}
 use borrow.Author.Needs.{needs}
-use lib.IntN.{pos}
-use lib.ListN.{length, getD}
+use lib.ListN.{length}
 use mir.Syntax.{w32}
 use Rattle.numbers.proofs.Is.{kept-is}
 use Rattle.shapes.specs.Shapes.{countOf, wordsFrom, shapeFrom}

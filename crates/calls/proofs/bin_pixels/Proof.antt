@@ -1,5 +1,5 @@
 -- `calls::bin_pixels` meets its contract: each test tells a row of the table, or that its cause does not apply.
-use mathlib.Core.Path.{_≡_, refl, sym, ap, _∙_}
+use mathlib.Core.Path.{refl, sym, ap, _∙_}
 use native.Mathlib.Omega.{arith}
 use Rattle.snap.specs.Shapes.{shapeNumberOf}
 use Rattle.snap.proofs.Shapes.{whole-in-range}

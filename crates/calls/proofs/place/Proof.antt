@@ -1,10 +1,10 @@
 -- `calls::place` meets its contract. The touched tiles are one list without a tile twice, so that `lists` counts and appends by it.
-use mathlib.Core.Path.{_≡_, refl, sym, ap, ap₂, _∙_}
+use mathlib.Core.Path.{refl, sym, ap, ap₂, _∙_}
 use Prim.Native.Nat.{ℕ}
 use native.Mathlib.Omega.{arith}
 use lib.ListN.{take}
 use borrow.Author.Needs.{needs}
-use Rattle.pool.specs.Words.{Layout, layoutOf}
+use Rattle.pool.specs.Words.{Layout}
 use Rattle.pool.specs.Editions.{layoutFor}
 use Rattle.lists.specs.Appending.{need, appendAll}
 use Rattle.calls.specs.Tables.{no-room, done}

@@ -41,17 +41,19 @@ abbrev pub singles : (ws : List ℤ) (bytes : List ℕ) (n : ℕ) (p q : List �
 singles ws bytes zero p q o = []
 singles ws bytes (suc n) p q o = binned (shapeAt 8 ws n) (idAt ws n) (o .2 .answer) ∷ singles ws bytes n p (o .0) (o .1)
 
--- what the bin of a list counts as
+-- what the bin of a list counts as: the bins of its shapes, or no call where it is refused as a whole
 abbrev pub listCounts : {p : List ℕ} {ws : List ℤ} {old : List ℕ} {number : ℕ} {q new : List ℕ} → BinListSays p ws old number q new → List Entry
 listCounts (damaged n e f g) = []
 listCounts (bad-list S n e f g) = []
 listCounts (too-few S r l e f g) = []
 listCounts {p} {ws} {old} {number} {q} {new} (done S r l e b) = singles ws new (countOf 8 ws) p q (b .each)
 
+-- what a call counts as
 abbrev pub counts : (p : List ℕ) (i : Item) (q : List ℕ) → ItemStep p i q → List Entry
 counts p (single e) q s = e ∷ []
 counts p (list ws old number new) q s = listCounts s
 
+-- a history, spelled out into single calls
 abbrev pub spelled : (p : List ℕ) (h : List Item) (q : List ℕ) → ItemRun p h q → List Entry
 spelled p [] q r = []
 spelled p (i ∷ h) q r = counts (r .0) i q (r .2) ++ spelled p h (r .0) (r .1)

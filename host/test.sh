@@ -29,7 +29,7 @@ say "every call from C and from C++"
 calls_from cc -std=c99
 calls_from c++ -std=c++11 -x c++
 
-say "the archive against the model, and the planner; about a minute, and half a minute to compile the first time"
+say "the archive against the model, and the planner; one to two minutes, and half a minute to compile the first time"
 log=$made/cargo-test.log
 cargo test --offline --locked --no-fail-fast -- --show-output </dev/null 2>&1 | tee "$log"
 ended=${PIPESTATUS[0]}

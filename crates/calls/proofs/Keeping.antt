@@ -1,4 +1,4 @@
--- What an accepted bin leaves of a sound pool: a sound pool of the same layout, screen and blocks, so that the header that the audit told is still its header.
+-- What a bin leaves of a sound pool: a sound pool of the same layout, screen and blocks, so that the header that the audit told is still its header.
 use mathlib.Core.Path.{_≡_, sym, ap, subst, _∙_}
 use mathlib.Core.List.{List}
 use Prim.Native.Nat.{ℕ, _≤_, _<_}
@@ -48,19 +48,19 @@ module _ {p q : List ℕ} (S : Sound (layoutOf p) p) {s r : State} {ts : List �
 
 -- ---- a bin, accepted or not
 
--- the audit would tell this header of the words p
-abbrev pub Told : Header → List ℕ → Type 0
-Told h p = Sound (layoutOf p) p × HeaderOf (layoutOf p) p h
+-- the words p are a sound pool with this header
+abbrev pub SoundWith : Header → List ℕ → Type 0
+SoundWith h p = Sound (layoutOf p) p × HeaderOf (layoutOf p) p h
 
-module _ {h : Header} {p : List ℕ} {shape : Shape} {id : ℕ} {a : Binned} {q : List ℕ} (k : Told h p) where
-  place-keeps : id < edition .limit → PlaceSays p shape id a q → Told h q
-  place-keeps i (PlaceSays.no-room ts T l e f) = subst (Told h) (sym f) k
+module _ {h : Header} {p : List ℕ} {shape : Shape} {id : ℕ} {a : Binned} {q : List ℕ} (k : SoundWith h p) where
+  place-keeps : id < edition .limit → PlaceSays p shape id a q → SoundWith h q
+  place-keeps i (PlaceSays.no-room ts T l e f) = subst (SoundWith h) (sym f) k
   place-keeps i (PlaceSays.done ts T l e f) =
       let A = bin-appends (k .0) id i T l in
-      subst (Told h) (sym f) (rw (kept-layout (k .0) (A .kept)) (A .sound), kept-header (k .0) (A .kept) (k .1))
+      subst (SoundWith h) (sym f) (rw (kept-layout (k .0) (A .kept)) (A .sound), kept-header (k .0) (A .kept) (k .1))
 
-  pub bin-keeps : BinSays p shape id a q → Told h q
-  bin-keeps (BinSays.damaged n e f) = subst (Told h) (sym f) k
-  bin-keeps (BinSays.bad-id S i e f) = subst (Told h) (sym f) k
-  bin-keeps (BinSays.out-of-range S i o e f) = subst (Told h) (sym f) k
+  pub bin-keeps : BinSays p shape id a q → SoundWith h q
+  bin-keeps (BinSays.damaged n e f) = subst (SoundWith h) (sym f) k
+  bin-keeps (BinSays.bad-id S i e f) = subst (SoundWith h) (sym f) k
+  bin-keeps (BinSays.out-of-range S i o e f) = subst (SoundWith h) (sym f) k
   bin-keeps (BinSays.placed S i o w) = place-keeps i w

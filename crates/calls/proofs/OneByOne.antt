@@ -12,7 +12,7 @@ use Rattle.audit.specs.declared.Header.{Header}
 use Rattle.calls.specs.declared.Binned.{Binned}
 use Rattle.calls.specs.Tables.{PlaceSays, BinSays}
 use Rattle.calls.specs.BinList.{idAt, BinNumber, OneByOne}
-use Rattle.calls.proofs.Keeping.{Told, bin-keeps}
+use Rattle.calls.proofs.Keeping.{SoundWith, bin-keeps}
 
 module _ {p : List ℕ} {shape : Shape} {id : ℕ} {a : Binned} {q : List ℕ} where
   place-number : PlaceSays p shape id a q → a .number ≤ 8
@@ -41,12 +41,12 @@ same-bytes ws bytes others p (suc n) q e o = (
 module _ (h : Header) (ws : List ℤ) (old p : List ℕ) where
   -- the first n shapes are binned and their bytes written, and the words q are still a sound pool of that header
   pub record Along (n : ℕ) (bytes q : List ℕ) : Type 0 where
-    pub told : Told h q
+    pub told : SoundWith h q
     pub each : OneByOne ws bytes n p q
     pub long : length bytes ≡ length old
     pub past : (i : ℕ) → n ≤ i → getD bytes i 0 ≡ getD old i 0
 
-  pub along-none : Told h p → Along 0 old p
+  pub along-none : SoundWith h p → Along 0 old p
   along-none k = record { told = k; each = refl; long = refl; past = λ i l. refl }
 
   pub along-more : {n : ℕ} {bytes m q : List ℕ} {number : ℕ} → Along n bytes m → n < length bytes → BinNumber m (shapeAt 8 ws n) (idAt ws n) number q

@@ -4,3 +4,4 @@ pub mod Reading
 pub mod Passing
 pub mod Whole
 pub mod Answers
+pub mod Poison

@@ -17,7 +17,7 @@ use screen::Tile;
 use screen::allowed;
 use screen::tiles_of;
 ghost use mathlib.Core.Path.{_≡_};
-ghost use Prim.Native.Nat.{ℕ, _+_, _*_, _<_, _≤_};
+ghost use Prim.Native.Nat.{ℕ, _+_, _*_, _^_, _<_, _≤_};
 ghost use lib.ListN.{length, getD};
 ghost use Rattle.numbers.specs.Says.{Says};
 ghost use Rattle.screen.specs.Screen.{Allowed};
@@ -26,7 +26,7 @@ ghost use Rattle.pool.specs.Editions.{layoutFor, Sized};
 ghost use Rattle.pool.specs.State.{times};
 ghost use Rattle.pool.specs.Sound.{screenOf, Opened};
 ghost use Rattle.audit.specs.Chain.{Places, timesInFirst};
-ghost use Rattle.audit.specs.Walk.{blockStart, tileStart, blockWordFrom, WalkSays, Passes, chainOf, MarkRight, TileRight, TilesRight, ChainsRight};
+ghost use Rattle.audit.specs.Walk.{blockStart, tileStart, blockWordFrom, poisonIn, WalkSays, Passes, chainOf, MarkRight, TileRight, TilesRight, ChainsRight};
 ghost use Rattle.audit.specs.Answer.{HeaderOf, RestRight, Finds, AuditFinds};
 
 // What the header of a sound pool says: the layout, the screen, how many tiles and blocks there are, and where the blocks start.
@@ -64,42 +64,57 @@ fn all_ids(pool: &[u32], at: usize, count: usize) -> bool
     all
 }
 
-// Whether so many words from a place on are poison, likewise.
-fn all_poison(pool: &[u32], at: usize, count: usize) -> bool
-    requires { ⌜ at + count ≤ length (now pool) ⌝ }
-    ensures { λ r. ⌜ Says r ((j : ℕ) → j < count → getD (now (pool .entry)) (at + j) 0 ≡ edition .poison) ⌝ }
+// How many of so many words from a place on are poison, likewise. The count has 32 bits, as a word has, so that one vector holds as many of both.
+fn poison_in(pool: &[u32], at: usize, count: usize) -> u32
+    requires { ⌜ (at + count ≤ length (now pool)) × (count < 2 ^ 32) ⌝ }
+    ensures { λ r. ⌜ r ≡ poisonIn (now (pool .entry)) at count ⌝ }
 {
-    let mut all = true;
+    let mut found: u32 = 0;
     let mut j = 0;
     while j < count {
-        all = all & (pool[at + j] == POISON);
+        found += (pool[at + j] == POISON) as u32;
         j += 1;
     }
-    all
+    found
 }
 
-// Whether the id places of a block hold k ids, and then poison.
-fn block_right(pool: &[u32], layout: Edition, from: usize, block: Block, k: usize) -> bool
-    requires { ⌜ (blockStart (layoutFor layout) from (block .0 + 1) ≤ length (now pool)) × (k ≤ layout .ids) ⌝ }
-    ensures { λ r. ⌜ Says r (Places (layoutFor layout) (blockWordFrom (layoutFor layout) (now (pool .entry)) from (block .0)) k) ⌝ }
+// Where a block starts. Both sizes are constants, so that it is a shift: along a chain each link waits for it.
+fn block_at(layout: Edition, from: usize, block: Block) -> usize
+    requires { ⌜ (blockStart (layoutFor layout) from (block .0 + 1) < 2 ^ 64) × Sized (layoutFor layout) ⌝ }
+    ensures { λ r. ⌜ r ≡ blockStart (layoutFor layout) from (block .0) ⌝ }
 {
     let b = wide(block.0);
-    let ids = layout.ids;
-    let at = from + ids * b + b;
-    if !all_ids(pool, at, k) {
-        return false;
+    if layout.ids == 31 {
+        from + 32 * b
+    } else {
+        from + 64 * b
     }
-    all_poison(pool, at + k, ids - k)
+}
+
+// Whether the id places of a block hold k ids, and then poison: the first k are ids and, where places are left, as many of the places are poison. The count is
+// over the whole block, less its link: 32 words are a whole number of vectors, and 31 are not.
+fn block_right(pool: &[u32], layout: Edition, from: usize, block: Block, k: usize) -> bool
+    requires { ⌜ (blockStart (layoutFor layout) from (block .0 + 1) ≤ length (now pool)) × (k ≤ layout .ids) × Sized (layoutFor layout) ⌝ }
+    ensures { λ r. ⌜ Says r (Places (layoutFor layout) (blockWordFrom (layoutFor layout) (now (pool .entry)) from (block .0)) k) ⌝ }
+{
+    let at = block_at(layout, from, block);
+    let ids = layout.ids;
+    if k < ids {
+        let link = (pool[at + ids] == POISON) as u32;
+        if wide(poison_in(pool, at, ids + 1) - link) != ids - k {
+            return false;
+        }
+    }
+    all_ids(pool, at, k)
 }
 
 // The link of a block.
 fn link_of(pool: &[u32], layout: Edition, from: usize, block: Block) -> u32
-    requires { ⌜ blockStart (layoutFor layout) from (block .0 + 1) ≤ length (now pool) ⌝ }
+    requires { ⌜ (blockStart (layoutFor layout) from (block .0 + 1) ≤ length (now pool)) × Sized (layoutFor layout) ⌝ }
     ensures { λ r. ⌜ r ≡ blockWordFrom (layoutFor layout) (now (pool .entry)) from (block .0) (layout .ids) ⌝ }
 {
-    let b = wide(block.0);
+    let at = block_at(layout, from, block);
     let ids = layout.ids;
-    let at = from + ids * b + b;
     pool[at + ids]
 }
 
@@ -114,7 +129,7 @@ fn walk(
     mut q: usize,
     mut left: usize,
 ) -> Walked
-    requires { ⌜ (blockStart (layoutFor layout) from blocks ≤ length (now pool)) × (blocks ≤ length (now marks)) ⌝ }
+    requires { ⌜ (blockStart (layoutFor layout) from blocks ≤ length (now pool)) × (blocks ≤ length (now marks)) × Sized (layoutFor layout) ⌝ }
     ensures { λ r. ⌜ WalkSays (layoutFor layout) (now (pool .entry)) from blocks link q left (now (marks .entry)) (now (marks .exit)) r ⌝ }
 {
     let mut last = 0;
@@ -209,14 +224,13 @@ fn all_marked(marks: &[u8], n: usize) -> bool
     requires { ⌜ n ≤ length (now marks) ⌝ }
     ensures { λ r. ⌜ Says r ((b : ℕ) → b < n → getD (now (marks .entry)) b 0 ≡ 1) ⌝ }
 {
+    let mut all = true;
     let mut b = 0;
     while b < n {
-        if marks[b] != 1 {
-            return false;
-        }
+        all = all & (marks[b] == 1);
         b += 1;
     }
-    true
+    all
 }
 
 // Whether the tiles and the free blocks have their chains, and every block stands in one of them, once.

@@ -8,12 +8,8 @@ use Rattle.numbers.specs.Says.{Says}
 use Rattle.numbers.specs.Sum.{sumTo, one}
 use Rattle.numbers.proofs.Says.{says-not, says-false, says-once}
 use Rattle.numbers.proofs.Ceil.{below-or-last}
-use Rattle.numbers.proofs.Sum.{sumTo-add, sumTo-same, sumTo-all, sumTo-most, sumTo≤, sumTo-parts}
+use Rattle.numbers.proofs.Sum.{sumTo-add, sumTo-same, sumTo-all, sumTo≤, sumTo-parts, one≤, passes≤, none-passes}
 use Rattle.overlaps.specs.HowMany.{HowMany}
-
-one≤ : (b : Bool) → one b ≤ 1
-one≤ true = omega arith
-one≤ false = omega arith
 
 one-rises : {P Q : Type 0} {r s : Bool} → (Q → P) → Says r P → Says s Q → one s ≤ one r
 one-rises {r = true} {s} f h k = one≤ s
@@ -23,7 +19,7 @@ pub counts-once : {n c e : ℕ} {P : ℕ → Type 0} → HowMany n P c → HowMa
 counts-once {n} h k = h .sum ∙ sumTo-same n (λ i. one (h .test i)) (λ i. one (k .test i)) (λ i l. ap one (says-once (h .says i l) (k .says i l))) ∙ sym (k .sum)
 
 pub counts≤ : {n c : ℕ} {P : ℕ → Type 0} → HowMany n P c → c ≤ n
-counts≤ {n} h = omega (arith, h .sum, sumTo-most n 1 (λ i. one (h .test i)) (λ i l. one≤ (h .test i)))
+counts≤ {n} h = omega (arith, h .sum, passes≤ n (h .test))
 
 pub counts-rise : {n c e : ℕ} {P Q : ℕ → Type 0} → ((i : ℕ) → Q i → P i) → HowMany n P c → HowMany n Q e → e ≤ c
 counts-rise {n} f h k =
@@ -47,13 +43,6 @@ counts-both {n} {c} {e} h k =
     )
 
 -- ---- a rising list of all that pass a test
-
-none-passes : (n : ℕ) (test : ℕ → Bool) → ((i : ℕ) → i < n → test i ≡ true → ⊥) → sumTo n (λ i. one (test i)) ≡ 0
-none-passes n test f = omega (arith, sumTo-all n 0 (λ i. one (test i)) (λ i l. no i l (test i) refl))
-  where
-    no : (i : ℕ) → i < n → (b : Bool) → test i ≡ b → one b ≡ 0
-    no i l true e = absurd (f i l e)
-    no i l false e = refl
 
 -- n numbers below m, rising, are all that pass
 pub record Rising (f : ℕ → ℕ) (n m : ℕ) (test : ℕ → Bool) : Type 0 where

@@ -1,51 +1,39 @@
--- `audit::all_marked` says whether every block is marked: the blocks passed so far are.
+-- `audit::all_marked` says whether every block is marked: `all` says so of the blocks passed.
 use Prim.Native.Nat.{ℕ, _-_, _<_, _≤_}
 use native.Mathlib.Omega.{arith}
-use borrow.Author.Needs.{needs}
-use borrow.Author.Count.{below-more}
 use mathlib.Core.Path.{_≡_}
 use lib.ListN.{getD}
-use Rattle.numbers.proofs.Says.{says-yes, says-no}
+use Rattle.numbers.specs.Says.{Says}
+use Rattle.numbers.proofs.Says.{says-iff}
+use Rattle.numbers.proofs.Deciding.{says-none, says-more, says-eq}
 use Rattle.audit.proofs.all_marked.Statement.{statement}
 use Rattle.audit.proofs.all_marked.Tie as tie
 
 abbrev Inv-loop : tie.InvT-loop
-Inv-loop marks n b₀ b = (b ≤ n) × ((i : ℕ) → i < b → getD marks i 0 ≡ 1)
+Inv-loop marks n all₀ b₀ all b = (b ≤ n) × Says all ((i : ℕ) → i < b → getD marks i 0 ≡ 1)
 
 abbrev μ-loop : tie.MeasureT-loop
-μ-loop marks n b₀ b = n - b
+μ-loop marks n all₀ b₀ all b = n - b
 
 loop-holds : tie.Need-loop-holds Inv-loop μ-loop
-loop-holds c = search needs
+loop-holds c = (omega arith, says-none _)
 
-shared-slice-read-if1 : tie.Need-shared-slice-read-if1 Inv-loop μ-loop
-shared-slice-read-if1 c = search needs
-
-returns : tie.Need-returns Inv-loop μ-loop
-returns c = says-no (λ h. omega (arith, h (c .before .before .before .loop .b) (omega arith)))
+shared-slice-read-all : tie.Need-shared-slice-read-all Inv-loop μ-loop
+shared-slice-read-all c = omega arith
 
 add-b : tie.Need-add-b Inv-loop μ-loop
-add-b c = search needs
+add-b c = omega arith
 
 loop-less : tie.Need-loop-less Inv-loop μ-loop
-loop-less c = search needs
+loop-less c = omega arith
 
 loop-again : tie.Need-loop-again Inv-loop μ-loop
-loop-again c = (search needs, below-more _ _ (c .before .before .before .loop .inv .1) (omega arith))
+loop-again c = (omega arith, says-more _ _ (c .before .before .loop .inv .1) (says-eq _ _))
 
-returns-2 : tie.Need-returns-2 Inv-loop μ-loop
-returns-2 c = says-yes (λ b lt. c .before .loop .inv .1 b (omega arith))
+returns : tie.Need-returns Inv-loop μ-loop
+returns c = says-iff (λ h i lt. h i (omega arith)) (λ h i lt. h i (omega arith)) (c .before .loop .inv .1)
 
 pub all-marked-spec : {M : Type 1} → statement M
 all-marked-spec =
     tie.close
-    (tie.spec
-    Inv-loop
-    μ-loop
-    loop-holds
-    shared-slice-read-if1
-    returns
-    add-b
-    loop-less
-    loop-again
-    returns-2)
+    (tie.spec Inv-loop μ-loop loop-holds shared-slice-read-all add-b loop-less loop-again returns)

@@ -1,85 +1,109 @@
--- `audit::block_right` says whether a block's places are right: the first k are ids, and the others poison.
-use mathlib.Core.Path.{_≡_, ap, subst}
-use Prim.Native.Nat.{ℕ, _+_, _*_, _-_}
+-- `audit::block_right` says whether a block's places are right: where the first k hold ids, the others hold poison exactly if as many do as are left.
+use mathlib.Core.Path.{_≡_, ap}
+use mathlib.Core.Logic.{⊎-elim}
+use Prim.Native.Nat.{ℕ, _+_, _-_}
 use native.Mathlib.Omega.{arith}
 use borrow.Author.Needs.{needs}
-use borrow.Author.Tests.{not-true, not-false}
 use denote.Ref.{now}
+use lib.Dec.{eqb}
 use lib.ListN.{getD}
+use mir.Val.{boolByte}
 use Rattle.numbers.proofs.Says.{says-no, says-iff}
 use Rattle.pool.specs.Words.{edition}
 use Rattle.pool.specs.Editions.{layoutFor}
 use Rattle.audit.specs.Chain.{Places}
-use Rattle.audit.specs.Walk.{blockStart}
+use Rattle.audit.specs.Walk.{blockStart, blockWordFrom, poisonIn}
+use Rattle.audit.proofs.Poison.{as-one, poison-more, poisoned, places-count, count-places}
 use Rattle.audit.proofs.block_right.Statement.{statement}
 use Rattle.audit.proofs.block_right.Tie as tie
 
--- where the block starts, as the code reckons it
-abbrev at : tie.After-wide → ℕ
-at c = let a = c .before .before .args in a .from + a .layout .ids * c .wide .result + c .wide .result
+-- what is counted: the poison in the id places, and the link where it is poison
+counted : (c : tie.After-poison-in) → let b = c .before .before .before in let a = b .before .before .args in
+    let word : ℕ → ℕ = (λ j. getD (now (a .pool)) (b .block-at .result + j) 0) in
+    c .poison-in .result ≡ poisoned (layoutFor (a .layout)) word + boolByte (eqb (word (a .layout .ids)) (edition .poison))
+counted c =
+    let b = c .before .before .before in
+    let a = b .before .before .args in
+    let words = now (a .pool) in
+    omega (arith, c .poison-in .ensures, poison-more words (b .block-at .result) (a .layout .ids), as-one (eqb (getD words (b .block-at .result + a .layout .ids) 0) (edition .poison)))
 
-at-is : (c : tie.After-wide) → let a = c .before .before .args in blockStart (layoutFor (a .layout)) (a .from) (a .block .0) ≡ at c
-at-is c = let a = c .before .before .args in omega (arith, c .wide .ensures, ap (λ (n : ℕ). a .layout .ids * n) (c .wide .ensures))
+block-at-requires : tie.Need-block-at-requires
+block-at-requires c κs = (omega arith, c .before .pre .2)
+
+add-link : tie.Need-add-link
+add-link c = search needs
+
+mul-link : tie.Need-mul-link
+mul-link c = search needs
+
+shared-slice-read-link : tie.Need-shared-slice-read-link
+shared-slice-read-link c = search needs
+
+cast-link : tie.Need-cast-link
+cast-link c = search needs
+
+add-poison-in : tie.Need-add-poison-in
+add-poison-in c = search needs
+
+poison-in-requires : tie.Need-poison-in-requires
+poison-in-requires c κs =
+    let s = c .before .before .before .before in
+    (omega (arith, c .before .before .block-at .ensures, s .pre .0), omega (arith, s .pre .2 .ids≤))
+
+sub-wide : tie.Need-sub-wide
+sub-wide c = omega (arith, counted c)
 
 wide-requires : tie.Need-wide-requires
 wide-requires c κs = search needs
 
-mul-at : tie.Need-mul-at
-mul-at c = omega (arith, at-is c)
-
-add-at : tie.Need-add-at
-add-at c = omega (arith, at-is c)
-
-add-at-2 : tie.Need-add-at-2
-add-at-2 c = omega (arith, at-is c)
-
-all-ids-requires : tie.Need-all-ids-requires
-all-ids-requires c κs = omega (arith, at-is c)
+sub-if2 : tie.Need-sub-if2
+sub-if2 c = search needs
 
 returns : tie.Need-returns
 unfolding Places
 returns c =
-    let w = c .before .before in
-    rw (at-is w) (says-no (λ h. c .before .all-ids .ensures .no (not-true _ (c .if1 .taken)) (λ j lt. h j (omega (arith, w .before .before .pre .1)) .0 lt)))
+    let q = c .before .before in
+    let b = q .before .before .before in
+    let s = b .before .before in
+    rw (← b .block-at .ensures)
+    (says-no (λ h. omega (arith, c .if2 .taken, c .before .wide .ensures, counted q, places-count (layoutFor (s .args .layout)) (λ j. getD (now (s .args .pool)) (b .block-at .result + j) 0) (s .args .k) (s .pre .1) (omega arith) h)))
 
-add-all-poison : tie.Need-add-all-poison
-add-all-poison c = omega (arith, at-is (c .before .before))
-
-sub-all-poison : tie.Need-sub-all-poison
-sub-all-poison c = search needs
-
-all-poison-requires : tie.Need-all-poison-requires
-all-poison-requires c κs = omega (arith, at-is (c .before .before))
+all-ids-requires : tie.Need-all-ids-requires
+all-ids-requires c κs = search needs
 
 returns-2 : tie.Need-returns-2
 unfolding Places
 returns-2 c =
-    let w = c .before .before .before in
-    let s = w .before .before in
-    let k = s .args .k in
-    let held = c .before .before .all-ids .ensures .yes (not-false _ (c .before .if1 .left)) in
-    let word : ℕ → ℕ = (λ n. getD (now (s .args .pool)) n 0) in
-    let same : (i : ℕ) → at w + (k + i) ≡ at w + k + i = (λ i. omega arith) in
-    rw (at-is w)
+    let b = c .before .before in
+    let s = b .before .before in
+    let L = layoutFor (s .args .layout) in
+    let word : ℕ → ℕ = (λ j. getD (now (s .args .pool)) (b .block-at .result + j) 0) in
+    rw (← b .block-at .ensures)
     (says-iff
-    (λ h j lt. (
-      held j,
-      λ past. let e : k + (j - k) ≡ j = omega arith in subst (λ (n : ℕ). word (at w + n) ≡ edition .poison) e (rw (same (j - k)) (h (j - k) (omega arith))),
-    ))
-    (λ h j lt. rw (same j) at (h (k + j) (omega arith) .1 (omega arith)))
-    (c .all-poison .ensures))
+    (λ h.
+    ⊎-elim
+    (λ w.
+    let q : tie.After-poison-in = record { before = record { before = record { before = b; if1 = w .0 }; shared-slice-known2 = w .1 }; poison-in = w .2 } in
+    count-places L word (s .args .k) (s .pre .1) (omega arith) h (omega (arith, counted q, w .3 .ensures, w .4 .left)))
+    (λ w j lt. (h j, λ past. absurd (omega arith)))
+    (c .before .if1 .came))
+    (λ h j lt. h j (omega (arith, s .pre .1)) .0 lt)
+    (c .all-ids .ensures))
 
 pub block-right-spec : {M : Type 1} → statement M
 block-right-spec =
     tie.close
     (tie.spec
+    block-at-requires
+    add-link
+    mul-link
+    shared-slice-read-link
+    cast-link
+    add-poison-in
+    poison-in-requires
+    sub-wide
     wide-requires
-    mul-at
-    add-at
-    add-at-2
-    all-ids-requires
+    sub-if2
     returns
-    add-all-poison
-    sub-all-poison
-    all-poison-requires
+    all-ids-requires
     returns-2)

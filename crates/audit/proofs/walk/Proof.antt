@@ -64,7 +64,7 @@ block-right-requires c κs =
     let e : link - 1 + 1 ≡ link = omega arith in
     let h : link ≤ s .args .blocks = omega arith in
     let w : suc (s .args .layout .ids) * link ≤ suc (s .args .layout .ids) * s .args .blocks = mul-le-mul-left (suc (s .args .layout .ids)) h in
-    (rw e (omega (arith, w, s .pre .0)), omega (arith, c .share .ensures))
+    (rw e (omega (arith, w, s .pre .0)), omega (arith, c .share .ensures), s .pre .2)
 
 same-length-4 : tie.Need-same-length-4 Inv-loop μ-loop
 same-length-4 c = search needs
@@ -86,7 +86,7 @@ link-of-requires c κs =
     let e : link - 1 + 1 ≡ link = omega arith in
     let h : link ≤ s .args .blocks = omega arith in
     let w : suc (s .args .layout .ids) * link ≤ suc (s .args .layout .ids) * s .args .blocks = mul-le-mul-left (suc (s .args .layout .ids)) h in
-    rw e (omega (arith, w, s .pre .0))
+    (rw e (omega (arith, w, s .pre .0)), s .pre .2)
 
 sub-q : tie.Need-sub-q Inv-loop μ-loop
 sub-q c = omega arith

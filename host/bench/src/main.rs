@@ -1,5 +1,5 @@
 //! Nanoseconds per call of the archive beside a plain Rust binner, in five runs; of draw calls and of the totals of a list, per
-//! shape; of another version's archive, where one is given, the unit too. Screen 800 by 480, s = 4, 2,048 blocks; pools of
+//! shape; and by turns with another version's archive, where one is given. Screen 800 by 480, s = 4, 2,048 blocks; pools of
 //! edition one and, in the rows that say so, of edition two with 64 words to a block.
 
 mod clock;
@@ -8,6 +8,8 @@ mod lists;
 mod plain;
 mod shapes;
 mod table;
+#[cfg(other)]
+mod turns;
 mod unit;
 
 use std::hint::black_box;
@@ -18,7 +20,7 @@ use lists::lists_in;
 use plain::Plain;
 use shapes::{small, triangle, wide};
 use table::{Beside, Row};
-use unit::Unit;
+use unit::unit;
 
 const SCREEN: Screen = Screen { width: 800, height: 480, s: 4 };
 const BLOCKS: u32 = 2048;
@@ -289,15 +291,15 @@ fn each(coordinates: &[f32], call: impl Fn(f32) -> Result<i32, u32>) -> f64 {
     )
 }
 
-/// The unit of each coordinate, by an archive and by plain Rust.
-fn snap(call: &str, unit: Unit) -> Row {
+/// The unit of each coordinate, by the archive and by plain Rust.
+fn snap() -> Row {
     let coordinates = coordinates();
     for &v in &coordinates {
-        assert_eq!(unit.call(v), plain::unit(v), "{v}");
+        assert_eq!(unit(v), plain::unit(v), "{v}");
     }
-    let archive = each(&coordinates, |v| unit.call(v));
+    let archive = each(&coordinates, unit);
     let plain = each(&coordinates, plain::unit);
-    row(call, archive, Beside::Plain(plain))
+    row("unit, a coordinate", archive, Beside::Plain(plain))
 }
 
 fn run() -> Vec<Row> {
@@ -308,11 +310,10 @@ fn run() -> Vec<Row> {
         rows.extend(calls_on(edition, "31 screen-wide shapes", &wide(31), Beside::Plain));
         rows.push(long_read(edition));
     }
-    rows.extend([least_bin(), snap("unit, a coordinate", Unit::HERE)]);
+    rows.extend([least_bin(), snap()]);
     rows.extend([totals("1,500 small shapes", &small(1500)), totals("31 screen-wide shapes", &wide(31))]);
     rows.extend(draw_calls("10,000 small shapes", "in one list", &small(10_000), 10_000));
     rows.extend(draw_calls("10,000 screen-wide shapes", "in lists of 31", &wide(10_000), 31));
-    rows.extend(Unit::OTHER.map(|unit| snap("unit, a coordinate, by the other archive", unit)));
     rows
 }
 
@@ -324,4 +325,6 @@ fn main() {
         })
         .collect();
     table::print(&runs);
+    #[cfg(other)]
+    turns::print();
 }

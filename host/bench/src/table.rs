@@ -45,7 +45,12 @@ impl Spread {
     }
 
     fn middle(&self) -> f64 {
-        self.0[self.0.len() / 2]
+        self.part(2)
+    }
+
+    /// What so many quarters of the times are at most.
+    fn part(&self, quarters: usize) -> f64 {
+        self.0[self.0.len() * quarters / 4]
     }
 
     fn ends(&self) -> [String; 2] {
@@ -82,4 +87,20 @@ pub fn print(runs: &[Vec<Row>]) {
             Beside::PlainOfARange(_) => println!("| {call} | {} | {} | |", archive.range(), plain.text()),
         }
     }
+}
+
+#[cfg(other)]
+pub fn print_turns_head() {
+    println!();
+    println!("| call | other archive, ns | archive, ns | ratio, and its quartiles |");
+    println!("|---|---|---|---|");
+}
+
+/// Prints a call's row, of the times of two archives in each round.
+#[cfg(other)]
+pub fn print_turns(call: &str, rounds: &[[f64; 2]]) {
+    let [other, archive] = [0, 1].map(|turn| number(Spread::of(rounds.iter().map(|times| times[turn])).middle()));
+    let ratio = Spread::of(rounds.iter().map(|[other, archive]| archive / other));
+    let [low, middle, high] = [1, 2, 3].map(|quarters| ratio.part(quarters));
+    println!("| {call} | {other} | {archive} | {middle:.2} ({low:.2}–{high:.2}) |");
 }

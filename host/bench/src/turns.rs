@@ -1,0 +1,165 @@
+//! The archive by turns with another version's: what a call takes by each, and the ratio within each round. host/measure.sh
+//! links a copy of either under names of its own, with every function at a multiple of 64 bytes.
+
+use std::hint::black_box;
+
+use flourscoop::{Screen, Shape, Vertex};
+
+use crate::shapes::{small, wide};
+use crate::{round, table, Edition, BLOCKS, ROUNDS, SCREEN, TILES};
+
+/// The calls of an archive.
+#[derive(Clone, Copy)]
+struct Archive {
+    open: unsafe extern "C" fn(*mut u32, usize, u32, u32, u32, u32) -> u32,
+    audit: unsafe extern "C" fn(*const u32, usize) -> u32,
+    bin: unsafe extern "C" fn(*mut u32, usize, u32, i32, i32, i32, i32, i32, i32, *mut u32, *mut u32) -> u32,
+    read: unsafe extern "C" fn(*const u32, usize, u32, u32, *mut u32) -> u32,
+    release: unsafe extern "C" fn(*mut u32, usize, u32, *mut u32) -> u32,
+}
+
+macro_rules! archive {
+    ($open:ident $audit:ident $bin:ident $read:ident $release:ident) => {{
+        extern "C" {
+            fn $open(pool: *mut u32, words: usize, width: u32, height: u32, s: u32, blocks: u32) -> u32;
+            fn $audit(pool: *const u32, words: usize) -> u32;
+            fn $bin(
+                pool: *mut u32,
+                words: usize,
+                id: u32,
+                x1: i32,
+                y1: i32,
+                x2: i32,
+                y2: i32,
+                x3: i32,
+                y3: i32,
+                tiles: *mut u32,
+                blocks: *mut u32,
+            ) -> u32;
+            fn $read(pool: *const u32, words: usize, tile: u32, place: u32, id: *mut u32) -> u32;
+            fn $release(pool: *mut u32, words: usize, tile: u32, blocks: *mut u32) -> u32;
+        }
+        Archive { open: $open, audit: $audit, bin: $bin, read: $read, release: $release }
+    }};
+}
+
+/// The other version's, and then this one.
+fn archives() -> [Archive; 2] {
+    [
+        archive!(other_flourscoop_open other_flourscoop_audit other_flourscoop_bin_triangle other_flourscoop_read other_flourscoop_release),
+        archive!(this_flourscoop_open this_flourscoop_audit this_flourscoop_bin_triangle this_flourscoop_read this_flourscoop_release),
+    ]
+}
+
+impl Archive {
+    fn open(self, words: &mut [u32], Screen { width, height, s }: Screen) -> u32 {
+        unsafe { (self.open)(words.as_mut_ptr(), words.len(), width, height, s, BLOCKS) }
+    }
+
+    fn audit(self, words: &[u32]) -> u32 {
+        unsafe { (self.audit)(words.as_ptr(), words.len()) }
+    }
+
+    fn bin(self, words: &mut [u32], id: u32, shape: Shape<Vertex>) -> u32 {
+        let Shape::Triangle(a, b, c) = shape else { unreachable!("both mixes are of triangles") };
+        let (mut tiles, mut blocks) = (0, 0);
+        unsafe {
+            (self.bin)(words.as_mut_ptr(), words.len(), id, a.x, a.y, b.x, b.y, c.x, c.y, &mut tiles, &mut blocks)
+        }
+    }
+
+    fn read(self, words: &[u32], tile: u32) -> u32 {
+        let mut id = 0;
+        unsafe { (self.read)(words.as_ptr(), words.len(), tile, 0, &mut id) }
+    }
+
+    fn release(self, words: &mut [u32], tile: u32) -> u32 {
+        let mut blocks = 0;
+        unsafe { (self.release)(words.as_mut_ptr(), words.len(), tile, &mut blocks) }
+    }
+}
+
+/// A row of the table: a call by both archives, the one that begins changing from round to round.
+fn row<P>(call: &str, calls: usize, prepare: impl Fn() -> P, run: impl Fn(Archive, &mut P)) {
+    let archives = archives();
+    let rounds: Vec<[f64; 2]> = (0..ROUNDS)
+        .map(|count| {
+            let mut times = [0.0; 2];
+            for turn in [count % 2, 1 - count % 2] {
+                times[turn] = round(calls, &prepare, |prepared| run(archives[turn], prepared));
+            }
+            times
+        })
+        .collect();
+    table::print_turns(call, &rounds);
+}
+
+/// An audit is repeated so often, so that it takes far longer than to look at the clock.
+const AUDITS: usize = 20;
+
+fn audits(edition: Edition, kind: &str, words: &[u32]) {
+    row(
+        &edition.named(&format!("audit of the pool {kind}")),
+        AUDITS,
+        || words.to_vec(),
+        |archive, words| {
+            for _ in 0..AUDITS {
+                assert_eq!(archive.audit(black_box(words)), 0);
+            }
+        },
+    );
+}
+
+fn calls_on(edition: Edition, kind: &str, shapes: &[Shape<Vertex>]) {
+    let named = |call: &str| edition.named(&format!("{call}, {kind}"));
+    let opened = || edition.opened(SCREEN, BLOCKS);
+    let bin_all = |archive: Archive, words: &mut Vec<u32>| {
+        for (id, &shape) in shapes.iter().enumerate() {
+            assert_eq!(archive.bin(words, id as u32, shape), 0);
+        }
+    };
+    let [mut words, mut same] = [opened(), opened()];
+    let [other, this] = archives();
+    bin_all(this, &mut words);
+    bin_all(other, &mut same);
+    assert_eq!(words, same);
+    audits(edition, &format!("with {kind}"), &words);
+    row(&named("bin"), shapes.len(), opened, bin_all);
+    row(
+        &named("read"),
+        TILES as usize,
+        || words.clone(),
+        |archive, words| {
+            for tile in 0..TILES {
+                black_box(archive.read(words, tile));
+            }
+        },
+    );
+    row(
+        &named("release"),
+        TILES as usize,
+        || words.clone(),
+        |archive, words| {
+            for tile in 0..TILES {
+                assert_eq!(archive.release(words, tile), 0);
+            }
+        },
+    );
+}
+
+/// Prints the table. An archive that answers 4 to the pools of an edition has no rows of them.
+pub fn print() {
+    let [other, _] = archives();
+    table::print_turns_head();
+    let unopened = || Edition::One.unopened(SCREEN, BLOCKS);
+    row("open", 1, unopened, |archive, words| assert_eq!(archive.open(words, SCREEN), 0));
+    for edition in [Edition::One, Edition::Two(64)] {
+        let opened = edition.opened(SCREEN, BLOCKS);
+        if other.audit(&opened) != 0 {
+            continue;
+        }
+        audits(edition, "as it was opened", &opened);
+        calls_on(edition, "1,500 small shapes", &small(1500));
+        calls_on(edition, "31 screen-wide shapes", &wide(31));
+    }
+}

@@ -141,7 +141,7 @@ extern "C" {
 /* The version of this header, and of the archive that goes with it. */
 #define FLOURSCOOP_VERSION_MAJOR 0
 #define FLOURSCOOP_VERSION_MINOR 6
-#define FLOURSCOOP_VERSION_PATCH 0
+#define FLOURSCOOP_VERSION_PATCH 1
 #define FLOURSCOOP_VERSION "0.6.1"
 
 /* The numbers; their texts follow. Where several causes apply, each call's comment has the order of looking for them. */

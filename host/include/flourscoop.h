@@ -24,10 +24,10 @@
  *   of which each only audits, reads or asks for a mark may. Calls that take no pool may always run. Several calls may take
  *   one list of shapes, as long as nothing writes to that.
  *
- * STACK, in bytes, as measured, on x86-64 in an emulator; of those of bin, bin_list and overlaps, 16,384 list the touched
+ * STACK, in bytes, as measured, on Arm in an emulator; of those of bin, bin_list and overlaps, 16,384 list the touched
  * tiles
  *               bin      bin_list   overlaps   audit   read    high_water   release   corner   box   open, open_two   unit
- *     x86-64    18,928   18,848     17,248     2,336   2,368   2,368        2,416     352      192   144              16
+ *     x86-64    18,912   18,832     17,248     2,320   2,352   2,352        2,400     352      192   144              16
  *     Arm       18,848   18,800     17,216     2,288   2,320   2,304        2,304     240      160   128              32
  *
  * SCREEN AND UNITS

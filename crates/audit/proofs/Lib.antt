@@ -5,3 +5,4 @@ pub mod Passing
 pub mod Whole
 pub mod Answers
 pub mod Poison
+pub mod Empty

@@ -173,7 +173,7 @@ fn mark_right(pool: &[u32], layout: Edition, blocks: u32, tile: Tile) -> bool
     mark <= layout.ids * wide(blocks)
 }
 
-// Whether a tile's mark is right, and it has its chain and names the last block of it. The chain's blocks are marked.
+// Whether a tile's mark is right, and it has its chain and names the last block of it. The chain's blocks are marked; an empty tile has none to walk along.
 fn tile_right(
     pool: &[u32],
     marks: &mut [u8],
@@ -190,6 +190,9 @@ fn tile_right(
     }
     let at = layout.header + TILE_WORDS * wide(tile.0);
     let q = wide(pool[at]);
+    if q == 0 {
+        return (pool[at + 1] == 0) & (pool[at + 2] == 0);
+    }
     let steps = blocks_for(layout, q);
     let Walked::Ends(last) = walk(pool, marks, layout, from, blocks, pool[at + 1], q, steps) else {
         return false;

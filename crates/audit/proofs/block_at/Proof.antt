@@ -1,6 +1,6 @@
 -- `audit::block_at` is where a block starts: the words of a block are 32, or they are 64.
 use mathlib.Core.Path.{_≡_, ap}
-use Prim.Native.Nat.{ℕ, suc, _+_, _*_}
+use Prim.Native.Nat.{ℕ, suc, _*_}
 use native.Mathlib.Omega.{arith}
 use borrow.Author.Needs.{needs}
 use Rattle.pool.proofs.Editions.{sixty-three}

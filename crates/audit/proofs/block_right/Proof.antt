@@ -1,5 +1,5 @@
 -- `audit::block_right` says whether a block's places are right: where the first k hold ids, the others hold poison exactly if as many do as are left.
-use mathlib.Core.Path.{_≡_, ap}
+use mathlib.Core.Path.{_≡_}
 use mathlib.Core.Logic.{⊎-elim}
 use Prim.Native.Nat.{ℕ, _+_, _-_}
 use native.Mathlib.Omega.{arith}
@@ -12,7 +12,6 @@ use Rattle.numbers.proofs.Says.{says-no, says-iff}
 use Rattle.pool.specs.Words.{edition}
 use Rattle.pool.specs.Editions.{layoutFor}
 use Rattle.audit.specs.Chain.{Places}
-use Rattle.audit.specs.Walk.{blockStart, blockWordFrom, poisonIn}
 use Rattle.audit.proofs.Poison.{as-one, poison-more, poisoned, places-count, count-places}
 use Rattle.audit.proofs.block_right.Statement.{statement}
 use Rattle.audit.proofs.block_right.Tie as tie

@@ -94,7 +94,7 @@ fn row<P>(call: &str, calls: usize, prepare: impl Fn() -> P, run: impl Fn(Archiv
     table::print_turns(call, &rounds);
 }
 
-/// An audit is repeated so often, so that it takes far longer than to look at the clock.
+/// How often an audit is repeated, so that it takes far longer than to look at the clock.
 const AUDITS: usize = 20;
 
 fn audits(edition: Edition, kind: &str, words: &[u32]) {

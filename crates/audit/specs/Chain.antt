@@ -2,6 +2,8 @@
 use mathlib.Core.Path.{_≡_}
 use mathlib.Core.List.{List, [], _∷_}
 use Prim.Native.Nat.{ℕ, zero, suc, _+_, _-_, _<_, _≤_, min}
+use lib.Dec.{eqb}
+use Rattle.numbers.specs.Sum.{sumTo, one}
 use Rattle.pool.specs.Words.{Layout}
 use Rattle.pool.specs.State.{times}
 
@@ -23,6 +25,10 @@ Filled holds ids q (b ∷ bs) = holds b (min ids q) × Filled holds ids (q - ids
 -- of the id places of a block, the first k hold ids, and the others poison
 unfoldable pub Places : Layout → (word : ℕ → ℕ) (k : ℕ) → Type 0
 Places L word k = (j : ℕ) → j < L .ids → (j < k → word j < L .limit) × (k ≤ j → word j ≡ L .poison)
+
+-- how many of the first n words are poison
+abbrev pub poisonIn : Layout → (word : ℕ → ℕ) (n : ℕ) → ℕ
+poisonIn L word n = sumTo n (λ j. one (eqb (word j) (L .poison)))
 
 -- how often b stands in the first t of a row of lists
 abbrev pub timesInFirst : (b : ℕ) (chain : ℕ → List ℕ) (t : ℕ) → ℕ

@@ -3,11 +3,9 @@ use mathlib.Core.Path.{_≡_}
 use mathlib.Core.Bool.{Bool, true, false}
 use mathlib.Core.List.{List}
 use Prim.Native.Nat.{ℕ, suc, _+_, _*_, _<_, _≤_}
-use lib.Dec.{eqb}
 use lib.ListN.{getD}
 use Rattle.numbers.specs.Ceil.{ceil}
-use Rattle.numbers.specs.Sum.{sumTo, one}
-use Rattle.pool.specs.Words.{Layout, edition, headerWord, tileWord}
+use Rattle.pool.specs.Words.{Layout, headerWord, tileWord}
 use Rattle.pool.specs.State.{lastLink, times}
 use Rattle.audit.specs.Chain.{follow, next, Run, timesInFirst}
 use Rattle.audit.specs.declared.Walked.{Walked}
@@ -24,10 +22,6 @@ blockStart L from b = from + suc (L .ids) * b
 -- word k of block b
 abbrev pub blockWordFrom : Layout → List ℕ → (from b k : ℕ) → ℕ
 blockWordFrom L p from b k = getD p (blockStart L from b + k) 0
-
--- how many of n words from a place on are poison
-abbrev pub poisonIn : List ℕ → (at n : ℕ) → ℕ
-poisonIn p at n = sumTo n (λ j. one (eqb (getD p (at + j) 0) (edition .poison)))
 
 -- no block is marked twice, by the marks v and as often as `count` says
 abbrev pub Apart : (n : ℕ) (v : List ℕ) (count : ℕ → ℕ) → Type 0

@@ -25,8 +25,8 @@ ghost use Rattle.pool.specs.Words.{edition, layoutOf};
 ghost use Rattle.pool.specs.Editions.{layoutFor, Sized};
 ghost use Rattle.pool.specs.State.{times};
 ghost use Rattle.pool.specs.Sound.{screenOf, Opened};
-ghost use Rattle.audit.specs.Chain.{Places, timesInFirst};
-ghost use Rattle.audit.specs.Walk.{blockStart, tileStart, blockWordFrom, poisonIn, WalkSays, Passes, chainOf, MarkRight, TileRight, TilesRight, ChainsRight};
+ghost use Rattle.audit.specs.Chain.{Places, poisonIn, timesInFirst};
+ghost use Rattle.audit.specs.Walk.{blockStart, tileStart, blockWordFrom, WalkSays, Passes, chainOf, MarkRight, TileRight, TilesRight, ChainsRight};
 ghost use Rattle.audit.specs.Answer.{HeaderOf, RestRight, Finds, AuditFinds};
 
 // What the header of a sound pool says: the layout, the screen, how many tiles and blocks there are, and where the blocks start.
@@ -67,7 +67,7 @@ fn all_ids(pool: &[u32], at: usize, count: usize) -> bool
 // How many of so many words from a place on are poison, likewise. The count has 32 bits, as a word has, so that one vector holds as many of both.
 fn poison_in(pool: &[u32], at: usize, count: usize) -> u32
     requires { ⌜ (at + count ≤ length (now pool)) × (count < 2 ^ 32) ⌝ }
-    ensures { λ r. ⌜ r ≡ poisonIn (now (pool .entry)) at count ⌝ }
+    ensures { λ r. ⌜ r ≡ poisonIn edition (λ j. getD (now (pool .entry)) (at + j) 0) count ⌝ }
 {
     let mut found: u32 = 0;
     let mut j = 0;

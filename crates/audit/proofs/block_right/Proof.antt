@@ -11,20 +11,19 @@ use mir.Val.{boolByte}
 use Rattle.numbers.proofs.Says.{says-no, says-iff}
 use Rattle.pool.specs.Words.{edition}
 use Rattle.pool.specs.Editions.{layoutFor}
-use Rattle.audit.specs.Chain.{Places}
-use Rattle.audit.proofs.Poison.{as-one, poison-more, poisoned, places-count, count-places}
+use Rattle.audit.specs.Chain.{Places, poisonIn}
+use Rattle.audit.proofs.Poison.{poison-more, places-count, count-places}
 use Rattle.audit.proofs.block_right.Statement.{statement}
 use Rattle.audit.proofs.block_right.Tie as tie
 
 -- what is counted: the poison in the id places, and the link where it is poison
 counted : (c : tie.After-poison-in) → let b = c .before .before .before in let a = b .before .before .args in
     let word : ℕ → ℕ = (λ j. getD (now (a .pool)) (b .block-at .result + j) 0) in
-    c .poison-in .result ≡ poisoned (layoutFor (a .layout)) word + boolByte (eqb (word (a .layout .ids)) (edition .poison))
+    c .poison-in .result ≡ poisonIn (layoutFor (a .layout)) word (a .layout .ids) + boolByte (eqb (word (a .layout .ids)) (edition .poison))
 counted c =
     let b = c .before .before .before in
     let a = b .before .before .args in
-    let words = now (a .pool) in
-    omega (arith, c .poison-in .ensures, poison-more words (b .block-at .result) (a .layout .ids), as-one (eqb (getD words (b .block-at .result + a .layout .ids) 0) (edition .poison)))
+    omega (arith, c .poison-in .ensures, poison-more (layoutFor (a .layout)) (λ j. getD (now (a .pool)) (b .block-at .result + j) 0) (a .layout .ids))
 
 block-at-requires : tie.Need-block-at-requires
 block-at-requires c κs = (omega arith, c .before .pre .2)

@@ -1,14 +1,15 @@
 -- `audit::walk` finds a chain right or broken: what is left of the walk is right exactly where the whole is (`Going`).
-use Prim.Native.Nat.{ℕ, suc, _+_, _*_, _-_, _≤_}
+use Prim.Native.Nat.{ℕ, suc, _+_, _*_, _-_, _<_, _≤_}
 use native.Mathlib.Nat.{mul-le-mul-left}
 use mathlib.Core.Path.{_≡_, ap}
 use native.Mathlib.Omega.{arith}
 use borrow.Author.Needs.{needs}
 use borrow.Author.Tests.{not-true, not-false}
-use lib.ListN.{getD}
+use denote.Ref.{now}
+use lib.ListN.{length, getD}
 use Rattle.pool.specs.Editions.{layoutFor}
 use Rattle.audit.specs.Chain.{Places, next}
-use Rattle.audit.specs.Walk.{blockWordFrom}
+use Rattle.audit.specs.Walk.{blockStart, blockWordFrom}
 use Rattle.audit.proofs.Follow.{Going, going-start, going-step, going-next, going-stops, going-ends}
 use Rattle.audit.proofs.walk.Statement.{statement}
 use Rattle.audit.proofs.walk.Tie as tie
@@ -20,6 +21,14 @@ Inv-loop pool marks₀ layout from blocks link₀ q₀ left₀ last₀ marks lin
 
 abbrev μ-loop : tie.MeasureT-loop
 μ-loop pool marks₀ layout from blocks link₀ q₀ left₀ last₀ marks link q left last = left
+
+-- the block that a link names ends within the slice
+within : (s : tie.Start Inv-loop μ-loop) (link : ℕ) → 0 < link → link ≤ s .args .blocks
+    → blockStart (layoutFor (s .args .layout)) (s .args .from) (link - 1 + 1) ≤ length (now (s .args .pool))
+within s link some h =
+    let e : link - 1 + 1 ≡ link = omega arith in
+    let w : suc (s .args .layout .ids) * link ≤ suc (s .args .layout .ids) * s .args .blocks = mul-le-mul-left (suc (s .args .layout .ids)) h in
+    rw e (omega (arith, w, s .pre .0))
 
 loop-holds : tie.Need-loop-holds Inv-loop μ-loop
 loop-holds c = going-start _ _ _ _ _ _ _ _
@@ -61,10 +70,7 @@ block-right-requires : tie.Need-block-right-requires Inv-loop μ-loop
 block-right-requires c κs =
     let s = c .before .before .before .before .before .before .before .before .before .before in
     let link = c .before .before .before .before .before .before .before .loop .link in
-    let e : link - 1 + 1 ≡ link = omega arith in
-    let h : link ≤ s .args .blocks = omega arith in
-    let w : suc (s .args .layout .ids) * link ≤ suc (s .args .layout .ids) * s .args .blocks = mul-le-mul-left (suc (s .args .layout .ids)) h in
-    (rw e (omega (arith, w, s .pre .0)), omega (arith, c .share .ensures), s .pre .2)
+    (within s link (omega arith) (omega arith), omega (arith, c .share .ensures), s .pre .2)
 
 same-length-4 : tie.Need-same-length-4 Inv-loop μ-loop
 same-length-4 c = search needs
@@ -83,10 +89,7 @@ link-of-requires : tie.Need-link-of-requires Inv-loop μ-loop
 link-of-requires c κs =
     let s = c .before .before .before .before .before .before .before .before .before .before .before .before in
     let link = c .before .before .before .before .before .before .before .before .before .loop .link in
-    let e : link - 1 + 1 ≡ link = omega arith in
-    let h : link ≤ s .args .blocks = omega arith in
-    let w : suc (s .args .layout .ids) * link ≤ suc (s .args .layout .ids) * s .args .blocks = mul-le-mul-left (suc (s .args .layout .ids)) h in
-    (rw e (omega (arith, w, s .pre .0)), s .pre .2)
+    (within s link (omega arith) (omega arith), s .pre .2)
 
 sub-q : tie.Need-sub-q Inv-loop μ-loop
 sub-q c = omega arith

@@ -3,7 +3,7 @@
 // bytes on the stack; the mark of a tile is one of its words.
 use numbers::wide;
 use pool::Edition;
-use pool::ID_LIMIT;
+use pool::ENTRY_LIMIT;
 use pool::MOST_BLOCKS;
 use pool::POISON;
 use pool::TILE_WORDS;
@@ -50,15 +50,15 @@ enum Walked {
     Ends(u32),
 }
 
-// Whether so many words from a place on are ids. All of them are looked at: without an early end the loop is compiled to vectors.
-fn all_ids(pool: &[u32], at: usize, count: usize) -> bool
+// Whether so many words from a place on are entries. All of them are looked at: without an early end the loop is compiled to vectors.
+fn all_entries(pool: &[u32], at: usize, count: usize) -> bool
     requires { ⌜ at + count ≤ length (now pool) ⌝ }
     ensures { λ r. ⌜ Says r ((j : ℕ) → j < count → getD (now (pool .entry)) (at + j) 0 < edition .limit) ⌝ }
 {
     let mut all = true;
     let mut j = 0;
     while j < count {
-        all = all & (pool[at + j] < ID_LIMIT);
+        all = all & (pool[at + j] < ENTRY_LIMIT);
         j += 1;
     }
     all
@@ -105,7 +105,7 @@ fn block_right(pool: &[u32], layout: Edition, from: usize, block: Block, k: usiz
             return false;
         }
     }
-    all_ids(pool, at, k)
+    all_entries(pool, at, k)
 }
 
 // The link of a block.

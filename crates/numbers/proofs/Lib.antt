@@ -5,3 +5,4 @@ pub mod Diff
 pub mod Is
 pub mod Ceil
 pub mod Sum
+pub mod Flag

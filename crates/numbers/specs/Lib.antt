@@ -3,3 +3,4 @@ pub mod Diff
 pub mod Is
 pub mod Ceil
 pub mod Sum
+pub mod Flag

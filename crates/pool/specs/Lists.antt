@@ -1,4 +1,4 @@
--- The list of a tile: its ids in order, read off the words.
+-- The list of a tile: its entries in order, read off the words. An entry is an id with its flag, in one word.
 use mathlib.Core.List.{List, [], _∷_, _++_}
 use Prim.Native.Nat.{ℕ, zero, suc}
 use lib.ListN.{take}
@@ -9,7 +9,7 @@ abbrev pub table : (n : ℕ) → (ℕ → ℕ) → List ℕ
 table zero f = []
 table (suc n) f = f zero ∷ table n (λ k. f (suc k))
 
--- the id places of a chain, one block after the other, from the block that a link names to the link 0, at most n blocks
+-- the places of a chain, one block after the other, from the block that a link names to the link 0, at most n blocks
 abbrev pub gather : (ids : ℕ) (word : ℕ → ℕ → ℕ) (n link : ℕ) → List ℕ
 gather ids word zero link = []
 gather ids word (suc n) zero = []

@@ -1,4 +1,4 @@
--- What a pool says: for each tile the blocks of its chain and the ids of its list, and the blocks of the free chain.
+-- What a pool says: for each tile the blocks of its chain and the entries of its list, and the blocks of the free chain.
 use mathlib.Core.Path.{_≡_}
 use mathlib.Core.List.{List, [], _∷_}
 use Prim.Native.Nat.{ℕ, suc, _+_, _<_}
@@ -6,13 +6,13 @@ use lib.ListN.{getD, drop}
 use lib.Dec.{eqb}
 use Rattle.numbers.specs.Sum.{one}
 
--- A tile: its blocks in the order of the chain, its ids in the order of the list, and its mark, the most entries that it had since the opening.
+-- A tile: its blocks in the order of the chain, its entries in the order of the list, and its mark, the most entries that it had since the opening.
 pub record Chained : Type 0 where
   pub blocks : List ℕ
   pub list : List ℕ
   pub mark : ℕ
 
--- without blocks and ids, by its mark
+-- without blocks and entries, by its mark
 abbrev pub emptied : (mark : ℕ) → Chained
 emptied mark = record { blocks = []; list = []; mark = mark }
 

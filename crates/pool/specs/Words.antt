@@ -4,6 +4,7 @@ use mathlib.Core.List.{List}
 use Prim.Native.Nat.{ℕ, suc, _+_, _*_, _-_, _<_}
 use lib.Dec.{eqb}
 use lib.ListN.{getD, set}
+use Rattle.numbers.specs.Flag.{flag}
 
 -- What one edition of the pool differs from another in.
 pub record Layout : Type 0 where
@@ -11,18 +12,22 @@ pub record Layout : Type 0 where
   pub header : ℕ
   -- words of a tile: entries, first block + 1, last block + 1, mark
   pub tile : ℕ
-  -- ids in a block; a block has one word more, its link
+  -- entries in a block; a block has one word more, its link
   pub ids : ℕ
-  -- ids are below this
+  -- entries are below this
   pub limit : ℕ
-  -- what stands where no id is
+  -- what stands where no entry is
   pub poison : ℕ
+
+-- ids are below this; an entry is an id, plus as much where the tile is wholly covered
+abbrev pub idLimit : ℕ
+idLimit = flag
 
 -- the first edition
 abbrev pub edition : Layout
-edition = record { header = 8; tile = 4; ids = 31; limit = 16777216; poison = 0xDEADBEEF }
+edition = record { header = 8; tile = 4; ids = 31; limit = 33554432; poison = 0xDEADBEEF }
 
--- the second edition, by the words of a block: the header has ten, and all but the last of a block are for ids
+-- the second edition, by the words of a block: the header has ten, and all but the last of a block are for entries
 abbrev pub second : (words : ℕ) → Layout
 second words = record { header = 10; tile = edition .tile; ids = words - 1; limit = edition .limit; poison = edition .poison }
 

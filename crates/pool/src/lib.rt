@@ -23,10 +23,12 @@ pub struct Edition {
 // A tile has its entries, its first block + 1, its last block + 1 and the most entries since the opening.
 pub const TILE_WORDS: usize = 4;
 
-// Ids are below this.
+// Ids are below this; and entries, which are ids with their flags, below twice as much.
 pub const ID_LIMIT: u32 = 16777216;
 
-// What stands where no id is.
+pub const ENTRY_LIMIT: u32 = 33554432;
+
+// What stands where no entry is.
 pub const POISON: u32 = 0xDEADBEEF;
 
 pub const MOST_BLOCKS: u32 = 2048;

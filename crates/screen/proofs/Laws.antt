@@ -12,7 +12,7 @@ use Rattle.numbers.proofs.Diff.{diff-pos, diff-le, diff-lt, ≤ℤ-trans, <ℤ-
 use Rattle.numbers.proofs.Ceil.{same-mul, ceil-enough}
 use Rattle.screen.specs.declared.Screen.{Screen}
 use Rattle.screen.specs.Screen.{Allowed, across, columns, rows, tiles, columnOf, rowOf, tileAt}
-use Rattle.screen.specs.Rectangle.{side, near, far, rectangleAt, glass, Inside, Proper}
+use Rattle.screen.specs.Rectangle.{side, near, far, rectangleAt, glass, Inside, Proper, HasArea}
 use Rattle.screen.proofs.Sizes.{across≥, past-below}
 
 pos-le : {m n : ℕ} → m ≤ n → pos m ≤ℤ pos n
@@ -89,6 +89,12 @@ module _ (d : Screen) (a : Allowed d) where
     top≥ = near≥ (d .height) (d .s) (a .height≤) (a .s≥) (a .s≤) hr;
     high = near-far (d .height) (d .s) (a .height≤) (a .s≥) (a .s≤) hr;
     bottom≤ = far≤ (d .height) (d .s) (a .height≤) (a .s≥) (a .s≤) hr;
+  }
+
+  pub rectangle-has-area : {column row : ℕ} → column < columns d → row < rows d → HasArea (rectangleAt d column row)
+  rectangle-has-area hc hr = record {
+    wide = near<far (d .width) (d .s) hc;
+    high = near<far (d .height) (d .s) hr;
   }
 
   -- a screen has a column and a row

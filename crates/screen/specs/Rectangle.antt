@@ -1,7 +1,7 @@
 -- The closed rectangle of a tile, in sixteenths of a pixel, x to the right and y down. It ends where the screen ends.
 use Prim.Native.Nat.{ℕ, _+_, _*_, _^_, _<_, _≤_, min}
 use lib.IntN.{ℤ, pos}
-use lib.Signed.{_≤ℤ_}
+use lib.Signed.{_≤ℤ_, _<ℤ_}
 use Rattle.screen.specs.declared.Screen.{Screen}
 use Rattle.screen.specs.declared.Rectangle.{Rectangle}
 use Rattle.screen.specs.declared.Span.{Span}
@@ -57,6 +57,11 @@ pub record Proper (q : Rectangle) : Type 0 where
   pub top≥ : pos 0 ≤ℤ q .top
   pub high : q .top ≤ℤ q .bottom
   pub bottom≤ : q .bottom ≤ℤ pos 524288
+
+-- a rectangle that is wider and higher than nothing, as a tile's is
+pub record HasArea (q : Rectangle) : Type 0 where
+  pub wide : q .left <ℤ q .right
+  pub high : q .top <ℤ q .bottom
 
 -- along an axis, tile k and the closed interval from low to high have a point in common
 pub record Meets (extent s : ℕ) (low high : ℤ) (k : ℕ) : Type 0 where

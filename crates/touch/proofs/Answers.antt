@@ -1,5 +1,6 @@
 -- Answers that are put together from others, and the corner test as a function to Bool, which answers as `Touches` does.
 use Prim.Native.Nat.{ℕ}
+use native.Mathlib.Omega.{arith}
 use mathlib.Core.Path.{_≡_, refl, sym, subst, _∙_}
 use mathlib.Core.Bool.{Bool, true, false, not, _&&_, _||_}
 use mathlib.Core.Logic.{_⊎_, inl, inr, ⊎-elim}
@@ -7,17 +8,23 @@ use lib.IntN.{ℤ, pos}
 use lib.Signed.{_≤ℤ_, _<ℤ_, leZ, ltZ}
 use Rattle.numbers.specs.Is.{Is}
 use Rattle.numbers.specs.Says.{Says}
+use Rattle.numbers.proofs.Diff.{diff-pos, diff-any, lt-diff}
 use Rattle.numbers.proofs.Says.{says-yes, says-no, says-iff, says-and, says-not}
 use Rattle.numbers.proofs.Deciding.{says-leℤ, says-ltℤ}
 use Rattle.screen.specs.declared.Rectangle.{Rectangle}
-use Rattle.screen.specs.Rectangle.{Proper}
+use Rattle.screen.specs.Rectangle.{Proper, HasArea}
 use Rattle.shape.specs.declared.Vertex.{Vertex}
 use Rattle.shape.specs.declared.Shape.{Shape}
 use Rattle.touch.specs.declared.Bounds.{Bounds}
+use Rattle.touch.specs.declared.Corners.{Corners}
 use Rattle.touch.specs.Touches.{Touches}
 use Rattle.touch.specs.Corner.{three, bounds, Overlap, edgeValue, Apart, Separates}
 use Rattle.touch.specs.Corner.Apart.{above, below}
+use Rattle.touch.specs.Cover.{Wholly}
+use Rattle.touch.specs.Inner.{OnSide, Inner, cornersOf, Keeps}
+use Rattle.touch.specs.Inner.OnSide.{over, under}
 use Rattle.touch.proofs.Theorem.{corner-is-touching}
+use Rattle.touch.proofs.Covering.{enclosed-is-wholly}
 
 pub says-same : {P : Type 0} {r s : Bool} → r ≡ s → Says s P → Says r P
 says-same {P} e h = subst (λ (t : Bool). Says t P) (sym e) h
@@ -79,6 +86,53 @@ module _ (third p q r s : ℤ) where
       (says-and (says-leℤ (pos 0) third)
       (says-and (says-and (says-ltℤ p (pos 0)) (says-ltℤ q (pos 0))) (says-and (says-ltℤ r (pos 0)) (says-ltℤ s (pos 0))))))
 
+-- ---- one edge, for covering
+
+abbrev pub inner : ℤ → Corners → Bool
+inner third v =
+    (ltZ (pos 0) third && ((leZ (pos 0) (v .p) && leZ (pos 0) (v .q)) && (leZ (pos 0) (v .r) && leZ (pos 0) (v .s))))
+    || (ltZ third (pos 0) && ((leZ (v .p) (pos 0) && leZ (v .q) (pos 0)) && (leZ (v .r) (pos 0) && leZ (v .s) (pos 0))))
+
+both-sides : {third : ℤ} → pos 0 <ℤ third → third <ℤ pos 0 → ⊥
+both-sides {third} h k =
+    let p = lt-diff (diff-pos 0) (diff-any third) h in
+    let q = lt-diff (diff-any third) (diff-pos 0) k in
+    omega arith
+
+over-side : {third v : ℤ} → pos 0 <ℤ third → OnSide third v → pos 0 ≤ℤ v
+over-side h (over z p) = p
+over-side h (under z p) = absurd (both-sides h z)
+
+under-side : {third v : ℤ} → third <ℤ pos 0 → OnSide third v → v ≤ℤ pos 0
+under-side h (over z p) = absurd (both-sides z h)
+under-side h (under z p) = p
+
+module _ (third : ℤ) (v : Corners) where
+  abbrev Over : Type 0
+  Over = (pos 0 <ℤ third) × (((pos 0 ≤ℤ v .p) × (pos 0 ≤ℤ v .q)) × ((pos 0 ≤ℤ v .r) × (pos 0 ≤ℤ v .s)))
+
+  abbrev Under : Type 0
+  Under = (third <ℤ pos 0) × (((v .p ≤ℤ pos 0) × (v .q ≤ℤ pos 0)) × ((v .r ≤ℤ pos 0) × (v .s ≤ℤ pos 0)))
+
+  all-inner : Over ⊎ Under → Inner third v
+  all-inner =
+      ⊎-elim
+      (λ h. record { p = over (h .0) (h .1 .0 .0); q = over (h .0) (h .1 .0 .1); r = over (h .0) (h .1 .1 .0); s = over (h .0) (h .1 .1 .1) })
+      (λ h. record { p = under (h .0) (h .1 .0 .0); q = under (h .0) (h .1 .0 .1); r = under (h .0) (h .1 .1 .0); s = under (h .0) (h .1 .1 .1) })
+
+  one-side : Inner third v → OnSide third (v .p) → Over ⊎ Under
+  one-side h (over z p) = inl (z, ((p, over-side z (h .q)), (over-side z (h .r), over-side z (h .s))))
+  one-side h (under z p) = inr (z, ((p, under-side z (h .q)), (under-side z (h .r), under-side z (h .s))))
+
+  pub inner-says : Says (inner third v) (Inner third v)
+  inner-says =
+      says-iff all-inner (λ h. one-side h (h .p))
+      (says-or
+      (says-and (says-ltℤ (pos 0) third)
+      (says-and (says-and (says-leℤ (pos 0) (v .p)) (says-leℤ (pos 0) (v .q))) (says-and (says-leℤ (pos 0) (v .r)) (says-leℤ (pos 0) (v .s)))))
+      (says-and (says-ltℤ third (pos 0))
+      (says-and (says-and (says-leℤ (v .p) (pos 0)) (says-leℤ (v .q) (pos 0))) (says-and (says-leℤ (v .r) (pos 0)) (says-leℤ (v .s) (pos 0))))))
+
 -- ---- the corner test
 
 abbrev separates : (a b c : Vertex) → Rectangle → Bool
@@ -115,3 +169,25 @@ corner-says-touching shape q ok =
     (λ t. let h = e .1 t in (h .box, (h .ab, (h .bc, h .ca))))
     (says-and (overlap-says (bounds (three shape)) q)
     (says-and (says-not (separates-says a b c q)) (says-and (says-not (separates-says b c a q)) (says-not (separates-says c a b q)))))
+
+-- ---- the test for covering
+
+abbrev keeps : (a b c : Vertex) → Rectangle → Bool
+keeps a b c q = inner (edgeValue a b (c .x) (c .y)) (cornersOf a b q)
+
+keeps-says : (a b c : Vertex) (q : Rectangle) → Says (keeps a b c q) (Keeps a b c q)
+keeps-says a b c q = inner-says (edgeValue a b (c .x) (c .y)) (cornersOf a b q)
+
+abbrev pub enclosed : Shape → Rectangle → Bool
+enclosed shape q =
+    keeps (three shape .a) (three shape .b) (three shape .c) q
+    && (keeps (three shape .b) (three shape .c) (three shape .a) q && keeps (three shape .c) (three shape .a) (three shape .b) q)
+
+pub enclosed-says-wholly : (shape : Shape) (q : Rectangle) → HasArea q → Says (enclosed shape q) (Wholly shape q)
+enclosed-says-wholly shape q area =
+    let a = three shape .a in
+    let b = three shape .b in
+    let c = three shape .c in
+    let e = enclosed-is-wholly shape area in
+    says-iff (λ h. e .0 (record { ab = h .0; bc = h .1 .0; ca = h .1 .1 })) (λ w. let h = e .1 w in (h .ab, (h .bc, h .ca)))
+    (says-and (keeps-says a b c q) (says-and (keeps-says b c a q) (keeps-says c a b q)))

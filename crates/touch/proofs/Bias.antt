@@ -71,16 +71,16 @@ module _ (k : ℕ) {x y : ℤ} {a b : ℕ} (e : Diff x a k) (f : Diff y b k) whe
   gap = diff-same (diff-sub e f) (omega arith)
 
 module _ {z : ℤ} {a b : ℕ} (e : Diff z a b) where
-  is-above : (pos 0 <ℤ z) ↔ (b < a)
+  pub is-above : (pos 0 <ℤ z) ↔ (b < a)
   is-above = (λ h. omega (arith, lt-diff (diff-pos 0) e h), λ h. diff-lt (diff-pos 0) e (omega arith))
 
-  is-below : (z <ℤ pos 0) ↔ (a < b)
+  pub is-below : (z <ℤ pos 0) ↔ (a < b)
   is-below = (λ h. omega (arith, lt-diff e (diff-pos 0) h), λ h. diff-lt e (diff-pos 0) (omega arith))
 
-  not-above : (z ≤ℤ pos 0) ↔ (a ≤ b)
+  pub not-above : (z ≤ℤ pos 0) ↔ (a ≤ b)
   not-above = (λ h. omega (arith, le-diff e (diff-pos 0) h), λ h. diff-le e (diff-pos 0) (omega arith))
 
-  not-below : (pos 0 ≤ℤ z) ↔ (b ≤ a)
+  pub not-below : (pos 0 ≤ℤ z) ↔ (b ≤ a)
   not-below = (λ h. omega (arith, le-diff (diff-pos 0) e h), λ h. diff-le (diff-pos 0) e (omega arith))
 
 -- ---- the box
@@ -104,7 +104,7 @@ module _ (k : ℕ) {x y : ℤ} {a b : ℕ} (e : Diff x a k) (f : Diff y b k) whe
 -- ---- the three tests
 
 module _ (k : ℕ) {S : Rectangle} {T : Frame} (t : Framed k S T) {A B C : Vertex} {P Q R : Spot} (f : Spotted k A P) (g : Spotted k B Q) (h : Spotted k C R) where
-  edge-diff : {x y : ℤ} {a b : ℕ} → Diff x a k → Diff y b k → Diff (edgeValue A B x y) (turn P Q a b) (turn Q P a b)
+  pub edge-diff : {x y : ℤ} {a b : ℕ} → Diff x a k → Diff y b k → Diff (edgeValue A B x y) (turn P Q a b) (turn Q P a b)
   edge-diff p q =
       diff-same (diff-sub (diff-mul (gap k p (f .ax)) (gap k (g .ay) (f .ay))) (diff-mul (gap k q (f .ay)) (gap k (g .ax) (f .ax)))) (omega arith)
 

@@ -11,3 +11,6 @@ pub mod Glass
 pub mod Answers
 pub mod Marked
 pub mod Sizes
+pub mod Points
+pub mod Sides
+pub mod Covering

@@ -1,12 +1,13 @@
-// Whether a shape touches a closed rectangle: by its bounding box, and exactly, by the corners of the rectangle.
+// How a shape covers a closed rectangle: whether its bounding box meets it, and exactly, by the corners of the rectangle: apart, partly or wholly.
 // The exact test comes in parts, so that what is the same for all rectangles, or for those of a row, is computed once.
 ghost use mathlib.Core.Path.{_≡_};
 ghost use Rattle.numbers.specs.Says.{Says};
-ghost use Rattle.screen.specs.Rectangle.{Proper};
+ghost use Rattle.screen.specs.Rectangle.{Proper, HasArea};
 ghost use Rattle.shape.specs.Shape.{InRange, Placed};
-ghost use Rattle.touch.specs.Touches.{Touches};
 ghost use Rattle.touch.specs.Corner.{three, lesser, greater, bounds, Overlap, Box};
-ghost use Rattle.touch.specs.Edges.{AllPlaced, edgeOf, edgesOf, rowEdge, rowEdges, ApartAt, Clear, Within, EdgeRange, EdgesRange, RowEdgeRange, RowEdgesRange};
+ghost use Rattle.touch.specs.Edges.{AllPlaced, edgeOf, edgesOf, rowEdge, rowEdges, Within, EdgeRange, EdgesRange, RowEdgeRange, RowEdgesRange};
+ghost use Rattle.touch.specs.Cover.{CoverSays, isTouched, isWhole};
+ghost use Rattle.touch.specs.Inner.{cornersAt, Outer, Inner, CoverAt};
 use screen::Rectangle;
 use shape::Shape;
 use shape::Vertex;
@@ -56,6 +57,21 @@ pub struct RowEdges {
     pub ab: RowEdge,
     pub bc: RowEdge,
     pub ca: RowEdge,
+}
+
+// The edge values at the four corners of a rectangle: left and right at the top, left and right at the bottom.
+pub struct Corners {
+    pub p: i64,
+    pub q: i64,
+    pub r: i64,
+    pub s: i64,
+}
+
+// How a shape covers a rectangle: it touches it nowhere, or not all four corners are points of it, or all four are.
+pub enum Cover {
+    Apart,
+    Partly,
+    Wholly,
 }
 
 // The vertices of a shape, three of them.
@@ -173,50 +189,112 @@ pub fn row_edges(edges: Edges, top: i64, bottom: i64) -> RowEdges
     }
 }
 
-// Whether the four corners, in the row from left to right, lie strictly on a side of the edge on which the third vertex does not lie.
-fn apart_at(edge: RowEdge, left: i64, right: i64) -> bool
-    requires { ⌜ (RowEdgeRange edge) × (Within 524288 left) × (Within 524288 right) ⌝ }
-    ensures { λ r. ⌜ Says r (ApartAt edge left right) ⌝ }
+// The three edges of the shape, in the row of the rectangle.
+fn edges_in(shape: Shape, rectangle: Rectangle) -> RowEdges
+    requires { ⌜ (InRange shape) × (Proper rectangle) ⌝ }
+    ensures { λ r. ⌜ r ≡ rowEdges (edgesOf (three shape)) (rectangle .top) (rectangle .bottom) ⌝ }
 {
-    let third = edge.third;
+    row_edges(edges_of(three_of(shape)), rectangle.top, rectangle.bottom)
+}
+
+// The edge values at the corners, in the row from left to right.
+fn corners_at(edge: RowEdge, left: i64, right: i64) -> Corners
+    requires { ⌜ (RowEdgeRange edge) × (Within 524288 left) × (Within 524288 right) ⌝ }
+    ensures { λ r. ⌜ r ≡ cornersAt edge left right ⌝ }
+{
     let near = (left - edge.x) * edge.dy;
     let far = (right - edge.x) * edge.dy;
-    let p = near - edge.upper;
-    let q = far - edge.upper;
-    let r = near - edge.lower;
-    let s = far - edge.lower;
+    Corners {
+        p: near - edge.upper,
+        q: far - edge.upper,
+        r: near - edge.lower,
+        s: far - edge.lower,
+    }
+}
+
+// Whether the four corners lie strictly on a side of the edge on which the third vertex does not lie.
+fn outer(edge: RowEdge, corners: Corners) -> bool
+    ensures { λ r. ⌜ Says r (Outer (edge .third) corners) ⌝ }
+{
+    let third = edge.third;
+    let p = corners.p;
+    let q = corners.q;
+    let r = corners.r;
+    let s = corners.s;
     let above = (third <= 0) & (((0 < p) & (0 < q)) & ((0 < r) & (0 < s)));
     let below = (0 <= third) & (((p < 0) & (q < 0)) & ((r < 0) & (s < 0)));
     above | below
 }
 
-// Whether no edge separates the shape from what lies in the row from left to right.
-pub fn clear(edges: RowEdges, left: i64, right: i64) -> bool
-    requires { ⌜ (RowEdgesRange edges) × (Within 524288 left) × (Within 524288 right) ⌝ }
-    ensures { λ r. ⌜ Says r (Clear edges left right) ⌝ }
+// Whether the third vertex does not lie on the edge, and each of the four corners lies on its side or on the edge.
+fn inner(edge: RowEdge, corners: Corners) -> bool
+    ensures { λ r. ⌜ Says r (Inner (edge .third) corners) ⌝ }
 {
-    if apart_at(edges.ab, left, right) {
-        return false;
-    }
-    if apart_at(edges.bc, left, right) {
-        return false;
-    }
-    if apart_at(edges.ca, left, right) {
-        return false;
-    }
-    true
+    let third = edge.third;
+    let p = corners.p;
+    let q = corners.q;
+    let r = corners.r;
+    let s = corners.s;
+    let over = (0 < third) & (((0 <= p) & (0 <= q)) & ((0 <= r) & (0 <= s)));
+    let under = (third < 0) & (((p <= 0) & (q <= 0)) & ((r <= 0) & (s <= 0)));
+    over | under
 }
 
-// Whether the shape touches the rectangle.
-pub fn corner_touches(shape: Shape, rectangle: Rectangle) -> bool
-    requires { ⌜ (InRange shape) × (Proper rectangle) ⌝ }
-    ensures { λ r. ⌜ Says r (Touches shape rectangle) ⌝ }
+// How the shape covers what lies in the row from left to right, where that meets its bounding box.
+pub fn cover_at(edges: RowEdges, left: i64, right: i64) -> Cover
+    requires { ⌜ (RowEdgesRange edges) × (Within 524288 left) × (Within 524288 right) ⌝ }
+    ensures { λ r. ⌜ CoverAt r edges left right ⌝ }
 {
-    let vertices = three_of(shape);
-    if overlap(bounds_of(vertices), rectangle) {
-        let edges = row_edges(edges_of(vertices), rectangle.top, rectangle.bottom);
-        clear(edges, rectangle.left, rectangle.right)
+    let ab = corners_at(edges.ab, left, right);
+    if outer(edges.ab, ab) {
+        return Cover::Apart;
+    }
+    let bc = corners_at(edges.bc, left, right);
+    if outer(edges.bc, bc) {
+        return Cover::Apart;
+    }
+    let ca = corners_at(edges.ca, left, right);
+    if outer(edges.ca, ca) {
+        return Cover::Apart;
+    }
+    if (inner(edges.ab, ab) & inner(edges.bc, bc)) & inner(edges.ca, ca) {
+        Cover::Wholly
     } else {
-        false
+        Cover::Partly
+    }
+}
+
+// How the shape covers the rectangle.
+pub fn cover_of(shape: Shape, rectangle: Rectangle) -> Cover
+    requires { ⌜ (InRange shape) × (Proper rectangle) × (HasArea rectangle) ⌝ }
+    ensures { λ r. ⌜ CoverSays r shape rectangle ⌝ }
+{
+    if box_touches(shape, rectangle) {
+        let edges = edges_in(shape, rectangle);
+        cover_at(edges, rectangle.left, rectangle.right)
+    } else {
+        Cover::Apart
+    }
+}
+
+// Whether an answer is not apart.
+pub fn is_touched(cover: Cover) -> bool
+    ensures { λ r. ⌜ r ≡ isTouched cover ⌝ }
+{
+    match cover {
+        Cover::Apart => false,
+        Cover::Partly => true,
+        Cover::Wholly => true,
+    }
+}
+
+// Whether an answer is wholly.
+pub fn is_whole(cover: Cover) -> bool
+    ensures { λ r. ⌜ r ≡ isWhole cover ⌝ }
+{
+    match cover {
+        Cover::Apart => false,
+        Cover::Partly => false,
+        Cover::Wholly => true,
     }
 }

@@ -66,8 +66,8 @@ returns c =
     rw (← b .block-at .ensures)
     (says-no (λ h. omega (arith, c .if2 .taken, c .before .wide .ensures, counted q, places-count (layoutFor (s .args .layout)) (λ j. getD (now (s .args .pool)) (b .block-at .result + j) 0) (s .args .k) (s .pre .1) (omega arith) h)))
 
-all-ids-requires : tie.Need-all-ids-requires
-all-ids-requires c κs = search needs
+all-entries-requires : tie.Need-all-entries-requires
+all-entries-requires c κs = search needs
 
 returns-2 : tie.Need-returns-2
 unfolding Places
@@ -86,7 +86,7 @@ returns-2 c =
     (λ w j lt. (h j, λ past. absurd (omega arith)))
     (c .before .if1 .came))
     (λ h j lt. h j (omega (arith, s .pre .1)) .0 lt)
-    (c .all-ids .ensures))
+    (c .all-entries .ensures))
 
 pub block-right-spec : {M : Type 1} → statement M
 block-right-spec =
@@ -103,5 +103,5 @@ block-right-spec =
     wide-requires
     sub-if2
     returns
-    all-ids-requires
+    all-entries-requires
     returns-2)

@@ -1,4 +1,4 @@
--- `audit::all_ids` says whether words are ids: `all` says so of the words passed.
+-- `audit::all_entries` says whether words are entries: `all` says so of the words passed.
 use Prim.Native.Nat.{ℕ, _+_, _-_, _<_, _≤_}
 use native.Mathlib.Omega.{arith}
 use lib.ListN.{getD}
@@ -6,8 +6,8 @@ use Rattle.numbers.specs.Says.{Says}
 use Rattle.numbers.proofs.Says.{says-iff}
 use Rattle.pool.specs.Words.{edition}
 use Rattle.numbers.proofs.Deciding.{says-none, says-more, says-lt}
-use Rattle.audit.proofs.all_ids.Statement.{statement}
-use Rattle.audit.proofs.all_ids.Tie as tie
+use Rattle.audit.proofs.all_entries.Statement.{statement}
+use Rattle.audit.proofs.all_entries.Tie as tie
 
 abbrev Inv-loop : tie.InvT-loop
 Inv-loop pool at count all₀ j₀ all j = (j ≤ count) × Says all ((i : ℕ) → i < j → getD pool (at + i) 0 < edition .limit)
@@ -39,8 +39,8 @@ loop-again c = (omega arith, says-more _ _ (c .before .before .loop .inv .1) (sa
 returns : tie.Need-returns Inv-loop μ-loop
 returns c = says-iff (λ h i lt. h i (omega arith)) (λ h i lt. h i (omega arith)) (c .before .loop .inv .1)
 
-pub all-ids-spec : {M : Type 1} → statement M
-all-ids-spec =
+pub all-entries-spec : {M : Type 1} → statement M
+all-entries-spec =
     tie.close
     (tie.spec
     Inv-loop

@@ -8,13 +8,14 @@ use native.Mathlib.Omega.{arith}
 use borrow.Author.Tests.{eq-eqb, ne-eqb}
 use lib.ListN.{length, getD, take, drop}
 use lib.Seq.{drop-cons, getD-take, length-take-le, drop-length}
+use Rattle.numbers.specs.Flag.{flagged, plain, isFlagged, plains}
 use Rattle.numbers.specs.Sum.{one}
 use Rattle.pool.specs.Words.{Layout, headerWord, tileWord}
 use Rattle.pool.specs.State.{times}
 use Rattle.pool.specs.Sound.{Sound, tilesOf}
 use Rattle.pool.proofs.Times.{times-head, times-tail}
 use Rattle.pool.proofs.Header.{keeps-tiles}
-use Rattle.lists.specs.Appending.{multiple, need, append, appendAll, Distinct}
+use Rattle.lists.specs.Appending.{multiple, need, append, appendAll, appendNamed, Gained, Distinct}
 use Rattle.lists.specs.Reach.{Among, AllAmong, Appendable}
 use Rattle.lists.proofs.Counts.{distinct-rest}
 use Rattle.lists.proofs.Several.{kept-keeps, append-all-appends}
@@ -48,10 +49,10 @@ need-kept L p q (t ∷ ts) same =
     ap₂ (λ (a b : ℕ). a + b) (ap (λ (n : ℕ). one (multiple (L .ids) n)) (same t (times-head t ts)))
     (need-kept L p q ts (λ u h. same u (times-tail u t ts h)))
 
--- the tiles `rest` are left, and to append to them ends in the words e
+-- the tiles that `rest` names are left, and to append to them ends in the words e
 pub record Appending (L : Layout) (p : List ℕ) (T : ℕ) (rest : List ℕ) (id : ℕ) (e : List ℕ) : Type 0 where
-  pub ready : Appendable L p T rest id
-  pub ends : appendAll L T p rest id ≡ e
+  pub ready : Appendable L p T (plains rest) id
+  pub ends : appendNamed L T p rest id ≡ e
 
 pub among-first : {L : Layout} {p : List ℕ} {T t : ℕ} {ts : List ℕ} → AllAmong L p T (t ∷ ts) → Among L p T t
 among-first {L} {p} {T} {t} {ts} M = record { sound = M .sound; sized = M .sized; tiles = M .tiles; tile = M .distinct .below t (times-head t ts) }
@@ -59,12 +60,21 @@ among-first {L} {p} {T} {t} {ts} M = record { sound = M .sound; sized = M .sized
 pub among-rest : {L : Layout} {p : List ℕ} {T t : ℕ} {ts : List ℕ} → AllAmong L p T (t ∷ ts) → AllAmong L p T ts
 among-rest M = record { sound = M .sound; sized = M .sized; tiles = M .tiles; distinct = distinct-rest (M .distinct) }
 
-module _ {L : Layout} {p : List ℕ} {T : ℕ} {t : ℕ} {rest : List ℕ} {id : ℕ} {e : List ℕ} (G : Appending L p T (t ∷ rest) id e) where
-  pub appending-enough : need L p (t ∷ []) ≤ headerWord p 4
-  appending-enough = omega (arith, need-parts L p t rest, G .ready .enough)
+module _ {L : Layout} {p : List ℕ} {T : ℕ} {w : ℕ} {rest : List ℕ} {id : ℕ} {e : List ℕ} (G : Appending L p T (w ∷ rest) id e) where
+  abbrev t : ℕ
+  t = plain w
 
-  pub appending-step : (q : List ℕ) → q ≡ append L T p t id → Appending L q T rest id e
-  unfolding appendAll
+  abbrev ts : List ℕ
+  ts = plains rest
+
+  abbrev entry : ℕ
+  entry = flagged id (isFlagged w)
+
+  pub appending-enough : need L p (t ∷ []) ≤ headerWord p 4
+  appending-enough = omega (arith, need-parts L p t ts, G .ready .enough)
+
+  pub appending-step : (q : List ℕ) → q ≡ append L T p t entry → Appending L q T rest id e
+  unfolding appendAll appendNamed
   appending-step q f =
       let among = G .ready .among in
       let D = among .distinct in
@@ -72,16 +82,16 @@ module _ {L : Layout} {p : List ℕ} {T : ℕ} {t : ℕ} {rest : List ℕ} {id :
         once = λ u. omega (arith, D .once u);
         below = λ u h. subst (λ (n : ℕ). u < n) (among .tiles) (D .below u (omega arith));
       } in
-      let M = append-all-appends (among .sized .fair) (among .sound) (t ∷ []) id D₁ (G .ready .in-range) appending-enough in
-      let f′ : q ≡ appendAll L (tilesOf p) p (t ∷ []) id = f ∙ ap (λ (n : ℕ). append L n p t id) (among .tiles) in
+      let M = append-all-appends (among .sized .fair) (among .sound) (t ∷ []) (λ u. entry) D₁ (λ u. G .ready .in-range (isFlagged w)) appending-enough in
+      let f′ : q ≡ appendAll L (tilesOf p) p (t ∷ []) (λ u. entry) = f ∙ ap (λ (n : ℕ). append L n p t entry) (among .tiles) in
       let K = M .kept in
-      let same : (u : ℕ) → 0 < times u rest → tileWord L q u 0 ≡ tileWord L p u 0
+      let same : (u : ℕ) → 0 < times u ts → tileWord L q u 0 ≡ tileWord L p u 0
       = (λ u h.
-      let hu : u < tilesOf p = subst (λ (n : ℕ). u < n) (among .tiles) (D .below u (times-tail u t rest h)) in
+      let hu : u < tilesOf p = subst (λ (n : ℕ). u < n) (among .tiles) (D .below u (times-tail u t ts h)) in
       let z : times u (t ∷ []) ≡ 0 = omega (arith, D .once u) in
-      ap (λ (w : List ℕ). tileWord L w u 0) f′ ∙ K .tiles u hu z 0 (omega (arith, among .sized .fair .tile>))) in
-      let n = need-kept L p q rest same in
-      let h4 : headerWord q 4 + need L p (t ∷ []) ≡ headerWord p 4 = ap (λ (w : List ℕ). headerWord w 4 + need L p (t ∷ [])) f′ ∙ M .taken in
+      ap (λ (v : List ℕ). tileWord L v u 0) f′ ∙ K .tiles u hu z 0 (omega (arith, among .sized .fair .tile>))) in
+      let n = need-kept L p q ts same in
+      let h4 : headerWord q 4 + need L p (t ∷ []) ≡ headerWord p 4 = ap (λ (v : List ℕ). headerWord v 4 + need L p (t ∷ [])) f′ ∙ M .taken in
       record {
         ready = record {
           among = record {
@@ -91,11 +101,19 @@ module _ {L : Layout} {p : List ℕ} {T : ℕ} {t : ℕ} {rest : List ℕ} {id :
             distinct = distinct-rest D;
           };
           in-range = G .ready .in-range;
-          enough = omega (arith, need-parts L p t rest, G .ready .enough);
+          enough = omega (arith, need-parts L p t ts, G .ready .enough);
         };
-        ends = ap (λ (w : List ℕ). appendAll L T w rest id) f ∙ G .ends;
+        ends = ap (λ (v : List ℕ). appendNamed L T v rest id) f ∙ G .ends;
       }
 
 pub appending-end : {L : Layout} {p : List ℕ} {T id : ℕ} {e : List ℕ} → Appending L p T [] id e → p ≡ e
-unfolding appendAll
+unfolding appendNamed
 appending-end G = G .ends
+
+-- by the numbers of the tiles, where `entry` tells what each gains
+pub named-appends : (L : Layout) (T : ℕ) (p : List ℕ) (entry : ℕ → ℕ) (id : ℕ) (named : List ℕ) → Gained entry id named
+    → appendNamed L T p named id ≡ appendAll L T p (plains named) entry
+unfolding appendAll appendNamed
+named-appends L T p entry id [] g = refl
+named-appends L T p entry id (w ∷ ws) g =
+    ap (λ (n : ℕ). appendNamed L T (append L T p (plain w) n) ws id) (sym (g .0)) ∙ named-appends L T (append L T p (plain w) (entry (plain w))) entry id ws (g .1)

@@ -27,7 +27,7 @@ tail-times b (x ∷ l) = omega arith
 
 -- ---- one tile, whichever way it goes
 
--- the tile x, with one id more, is y
+-- the tile x, with one entry more, is y
 pub record Gains (x y : Chained) (id : ℕ) : Type 0 where
   pub list : y .list ≡ x .list ++ (id ∷ [])
   pub mark : y .mark ≡ raised x
@@ -93,33 +93,33 @@ module _ (ids : ℕ) where
       ap₂ (λ (a b : ℕ). a + b) (ap (λ (x : Chained). one (multiple ids (length (x .list)))) (append-other ids s t id u ne))
       (need-other s t id ts (omega arith))
 
-  pub append-all-other : (s : State) (ts : List ℕ) (id u : ℕ) → times u ts ≡ 0 → tileOf (appendAllState ids s ts id) u ≡ tileOf s u
+  pub append-all-other : (s : State) (ts : List ℕ) (entry : ℕ → ℕ) (u : ℕ) → times u ts ≡ 0 → tileOf (appendAllState ids s ts entry) u ≡ tileOf s u
   unfolding appendAllState
-  append-all-other s [] id u z = refl
-  append-all-other s (t ∷ ts) id u z =
+  append-all-other s [] entry u z = refl
+  append-all-other s (t ∷ ts) entry u z =
       let ne : u ≢ t = (λ (e : u ≡ t). times-differ t u (t ∷ ts) (times-head t ts) z (sym e)) in
-      append-all-other (appendState ids s t id) ts id u (omega arith) ∙ append-other ids s t id u ne
+      append-all-other (appendState ids s t (entry t)) ts entry u (omega arith) ∙ append-other ids s t (entry t) u ne
 
-  pub append-all-gains : (s : State) (ts : List ℕ) (id u : ℕ) → Distinct (length (s .tiles)) ts → 0 < times u ts
-      → Gains (tileOf s u) (tileOf (appendAllState ids s ts id) u) id
+  pub append-all-gains : (s : State) (ts : List ℕ) (entry : ℕ → ℕ) (u : ℕ) → Distinct (length (s .tiles)) ts → 0 < times u ts
+      → Gains (tileOf s u) (tileOf (appendAllState ids s ts entry) u) (entry u)
   unfolding appendAllState
-  append-all-gains s [] id u D h = absurd (not-suc-le-zero h)
-  append-all-gains s (t ∷ ts) id u D h =
+  append-all-gains s [] entry u D h = absurd (not-suc-le-zero h)
+  append-all-gains s (t ∷ ts) entry u D h =
       ⊎-elim
       (λ (e : t ≡ u).
       rw (sym e)
-      (rw (append-all-other (appendState ids s t id) ts id t (distinct-first D)) (append-gains ids s t id (D .below t (times-head t ts)))))
+      (rw (append-all-other (appendState ids s t (entry t)) ts entry t (distinct-first D)) (append-gains ids s t (entry t) (D .below t (times-head t ts)))))
       (λ (ne : t ≢ u).
       let ne′ : u ≢ t = (λ z. ne (sym z)) in
-      subst (λ (x : Chained). Gains x (tileOf (appendAllState ids (appendState ids s t id) ts id) u) id) (append-other ids s t id u ne′)
-      (append-all-gains (appendState ids s t id) ts id u (rw (append-tiles ids s t id) (distinct-rest D)) (omega (arith, one-other u t ne′))))
+      subst (λ (x : Chained). Gains x (tileOf (appendAllState ids (appendState ids s t (entry t)) ts entry) u) (entry u)) (append-other ids s t (entry t) u ne′)
+      (append-all-gains (appendState ids s t (entry t)) ts entry u (rw (append-tiles ids s t (entry t)) (distinct-rest D)) (omega (arith, one-other u t ne′))))
       (eq-or-ne t u)
 
-  pub append-all-frees-none : (s : State) (ts : List ℕ) (id b : ℕ) → times b (appendAllState ids s ts id .free) ≤ times b (s .free)
+  pub append-all-frees-none : (s : State) (ts : List ℕ) (entry : ℕ → ℕ) (b : ℕ) → times b (appendAllState ids s ts entry .free) ≤ times b (s .free)
   unfolding appendAllState
-  append-all-frees-none s [] id b = omega arith
-  append-all-frees-none s (t ∷ ts) id b =
-      omega (arith, append-all-frees-none (appendState ids s t id) ts id b, append-frees-none ids s t id b)
+  append-all-frees-none s [] entry b = omega arith
+  append-all-frees-none s (t ∷ ts) entry b =
+      omega (arith, append-all-frees-none (appendState ids s t (entry t)) ts entry b, append-frees-none ids s t (entry t) b)
 
 -- ---- the blocks needed, on words and on the state
 

@@ -17,7 +17,7 @@ use Rattle.pool.proofs.Chain.{Same, frame, put-last}
 use Rattle.pool.proofs.State.{tile-once, apart, apart-free, in-range-snoc, tile-frame, shows-set}
 use Rattle.pool.proofs.Total.{held≤, chain≤}
 use Rattle.lists.specs.Appending.{counted, appendIn}
-use Rattle.lists.specs.Steps.{withId, inLast}
+use Rattle.lists.specs.Steps.{withEntry, inLast}
 use Rattle.lists.proofs.Within.{Within, within-then, within-tile, within-block}
 
 -- q is p with the id in place r of block l and one entry more for tile t
@@ -87,7 +87,7 @@ module _ {L : Layout} {T N : ℕ} {p : List ℕ} {s : State} (A : Fair L) (R : S
       let at : length (x .list) ≡ L .ids * length bs + length (x .list) % L .ids
       = ceil-part (L .ids) (A .ids>) (length (x .list)) (length bs) (sym (k .many) ∙ nb) nz in
       let many : length (x .blocks) ≡ ceil (suc (length (x .list))) (L .ids) = k .many ∙ sym (ceil-suc-part (L .ids) (A .ids>) (length (x .list)) nz) in
-      shows-set R q t (withId x id) (s .free) ht
+      shows-set R q t (withEntry x id) (s .free) ht
       (E .header 4 (omega (arith, A .header>)) ∙ R .count)
       (E .header 5 (omega (arith, A .header>)) ∙ R .first)
       (frame (L .ids) (L .poison) (blockWord L T p) (blockWord L T q) (s .free) []

@@ -33,13 +33,13 @@ sound-with {L} {p} {q} A S K r R = record {
 pub kept-keeps : {L : Layout} {T N : ℕ} {p q : List ℕ} {s r : State} {ts : List ℕ} → Kept L T N p q s r ts → Keeps L p q
 kept-keeps K = record { long = K .long; fixed = K .header }
 
-module _ {L : Layout} {T N : ℕ} (A : Fair L) (id : ℕ) (hid : id < L .limit) where
+module _ {L : Layout} {T N : ℕ} (A : Fair L) (entry : ℕ → ℕ) (in-range : (t : ℕ) → entry t < L .limit) where
   -- what is shown, what stays, and what is left of the free chain
   pub append-all-shows : {p : List ℕ} {s : State} (ts : List ℕ) → Shows L T N p s → room L T N ≤ length p → Distinct T ts
       → needState (L .ids) s ts ≤ length (s .free)
-      → Shows L T N (appendAll L T p ts id) (appendAllState (L .ids) s ts id)
-      × Kept L T N p (appendAll L T p ts id) s (appendAllState (L .ids) s ts id) ts
-      × (length (appendAllState (L .ids) s ts id .free) + needState (L .ids) s ts ≡ length (s .free))
+      → Shows L T N (appendAll L T p ts entry) (appendAllState (L .ids) s ts entry)
+      × Kept L T N p (appendAll L T p ts entry) s (appendAllState (L .ids) s ts entry) ts
+      × (length (appendAllState (L .ids) s ts entry .free) + needState (L .ids) s ts ≡ length (s .free))
   unfolding appendAll appendAllState needState
   append-all-shows {p} {s} [] R long D room = (
     R,
@@ -55,11 +55,11 @@ module _ {L : Layout} {T N : ℕ} (A : Fair L) (id : ℕ) (hid : id < L .limit) 
   )
   append-all-shows {p} {s} (t ∷ ts) R long D room =
       let ids = L .ids in
-      let r = appendState ids s t id in
+      let r = appendState ids s t (entry t) in
       let here : one (multiple ids (length (tileOf s t .list))) ≤ length (s .free) = omega arith in
-      let M = append-step A R long t id (D .below t (times-head t ts)) hid here in
-      let f = append-free ids s t id here in
-      let n = need-other ids s t id ts (distinct-first D) in
+      let M = append-step A R long t (entry t) (D .below t (times-head t ts)) (in-range t) here in
+      let f = append-free ids s t (entry t) here in
+      let n = need-other ids s t (entry t) ts (distinct-first D) in
       let I = append-all-shows ts (M .shows) (rw (M .within .keeps .long) long) (distinct-rest D) (omega arith) in
       let K = I .1 in
       let apart : (u : ℕ) → times u (t ∷ ts) ≡ 0 → u ≢ t = (λ u z e. times-differ t u (t ∷ ts) (times-head t ts) z (sym e)) in (
@@ -68,50 +68,50 @@ module _ {L : Layout} {T N : ℕ} (A : Fair L) (id : ℕ) (hid : id < L .limit) 
           long = K .long ∙ M .within .keeps .long;
           header = λ k hk k4 k5. K .header k hk k4 k5 ∙ M .within .keeps .fixed k hk k4 k5;
           tiles = λ u hu z i hi. K .tiles u hu (omega arith) i hi ∙ M .others u hu (apart u z) i hi;
-          blocks = λ u hu z b hb k hk. K .blocks u hu (omega arith) b (rw (append-other ids s t id u (apart u z)) hb) k hk ∙ M .blocks u (apart u z) b hb k hk;
+          blocks = λ u hu z b hb k hk. K .blocks u hu (omega arith) b (rw (append-other ids s t (entry t) u (apart u z)) hb) k hk ∙ M .blocks u (apart u z) b hb k hk;
           free = λ b hb hb′ k hk.
-              let hr : 0 < times b (r .free) = omega (arith, append-all-frees-none ids r ts id b) in
+              let hr : 0 < times b (r .free) = omega (arith, append-all-frees-none ids r ts entry b) in
               K .free b hr hb′ k hk ∙ M .free b hr k hk;
           tail = λ i hi. K .tail i hi ∙ M .within .tail i hi;
         },
         omega (arith, I .2),
       )
 
-pub append-all-appends : {L : Layout} {p : List ℕ} → Fair L → (S : Sound L p) (ts : List ℕ) (id : ℕ) → Distinct (tilesOf p) ts → id < L .limit
-    → need L p ts ≤ headerWord p 4 → Appended L p S (appendAll L (tilesOf p) p ts id) ts id
-append-all-appends {L} {p} A S ts id D hid enough =
+pub append-all-appends : {L : Layout} {p : List ℕ} → Fair L → (S : Sound L p) (ts : List ℕ) (entry : ℕ → ℕ) → Distinct (tilesOf p) ts → ((t : ℕ) → entry t < L .limit)
+    → need L p ts ≤ headerWord p 4 → Appended L p S (appendAll L (tilesOf p) p ts entry) ts entry
+append-all-appends {L} {p} A S ts entry D in-range enough =
     let s = S .state in
     let R = S .shows in
-    let r = appendAllState (L .ids) s ts id in
+    let r = appendAllState (L .ids) s ts entry in
     let n = need-shows R ts (D .below) in
-    let I = append-all-shows A id hid ts R (S .opened .long) D (omega (arith, R .count)) in
+    let I = append-all-shows A entry in-range ts R (S .opened .long) D (omega (arith, R .count)) in
     let K = I .1 in
     let D′ : Distinct (length (s .tiles)) ts = rw (R .tiled) D in
     let before : (u : ℕ) → u < tilesOf p → listOf L (tilesOf p) p u ≡ tileOf s u .list = listOf-shows A R in
-    let after : (u : ℕ) → u < tilesOf p → listOf L (tilesOf p) (appendAll L (tilesOf p) p ts id) u ≡ tileOf r u .list = listOf-shows A (I .0) in
+    let after : (u : ℕ) → u < tilesOf p → listOf L (tilesOf p) (appendAll L (tilesOf p) p ts entry) u ≡ tileOf r u .list = listOf-shows A (I .0) in
     let risen : (u : ℕ) → u < tilesOf p → tileOf r u .mark ≡ max (tileOf s u .mark) (length (tileOf r u .list))
     = (λ u hu.
-    ⊎-elim (λ (z : times u ts ≡ 0). rw (append-all-other (L .ids) s ts id u z) (omega (arith, R .tile u hu .mark≥)))
+    ⊎-elim (λ (z : times u ts ≡ 0). rw (append-all-other (L .ids) s ts entry u z) (omega (arith, R .tile u hu .mark≥)))
     (λ (h : 0 < times u ts).
-    let G = append-all-gains (L .ids) s ts id u D′ h in
-    omega (arith, G .mark, ap length (G .list), length-append (tileOf s u .list) (id ∷ [])))
+    let G = append-all-gains (L .ids) s ts entry u D′ h in
+    omega (arith, G .mark, ap length (G .list), length-append (tileOf s u .list) (entry u ∷ [])))
     (eq-zero-or-pos (times u ts))) in
     record {
       sound = sound-with A S (kept-keeps K) r (I .0);
       says = refl;
-      gains = λ t h. after t (D .below t h) ∙ append-all-gains (L .ids) s ts id t D′ h .list ∙ sym (ap (λ (l : List ℕ). l ++ (id ∷ [])) (before t (D .below t h)));
-      others = λ u hu z. after u hu ∙ ap (λ (x : Chained). x .list) (append-all-other (L .ids) s ts id u z) ∙ sym (before u hu);
+      gains = λ t h. after t (D .below t h) ∙ append-all-gains (L .ids) s ts entry t D′ h .list ∙ sym (ap (λ (l : List ℕ). l ++ (entry t ∷ [])) (before t (D .below t h)));
+      others = λ u hu z. after u hu ∙ ap (λ (x : Chained). x .list) (append-all-other (L .ids) s ts entry u z) ∙ sym (before u hu);
       marks = λ u hu. rw (I .0 .tile u hu .mark, R .tile u hu .mark, after u hu) (risen u hu);
       taken = omega (arith, I .2, I .0 .count, R .count);
       kept = K;
     }
 
-pub append-all-keeps-sound : {L : Layout} {p : List ℕ} → Fair L → Sound L p → (ts : List ℕ) (id : ℕ) → Distinct (tilesOf p) ts → id < L .limit
-    → need L p ts ≤ headerWord p 4 → Sound L (appendAll L (tilesOf p) p ts id)
-append-all-keeps-sound A S ts id D hid enough = append-all-appends A S ts id D hid enough .sound
+pub append-all-keeps-sound : {L : Layout} {p : List ℕ} → Fair L → Sound L p → (ts : List ℕ) (entry : ℕ → ℕ) → Distinct (tilesOf p) ts → ((t : ℕ) → entry t < L .limit)
+    → need L p ts ≤ headerWord p 4 → Sound L (appendAll L (tilesOf p) p ts entry)
+append-all-keeps-sound A S ts entry D in-range enough = append-all-appends A S ts entry D in-range enough .sound
 
 -- for one tile
-pub append-keeps-sound : {L : Layout} {p : List ℕ} → Fair L → Sound L p → (t id : ℕ) → t < tilesOf p → id < L .limit → need L p (t ∷ []) ≤ headerWord p 4
-    → Sound L (append L (tilesOf p) p t id)
+pub append-keeps-sound : {L : Layout} {p : List ℕ} → Fair L → Sound L p → (t entry : ℕ) → t < tilesOf p → entry < L .limit → need L p (t ∷ []) ≤ headerWord p 4
+    → Sound L (append L (tilesOf p) p t entry)
 unfolding appendAll
-append-keeps-sound A S t id ht hid enough = append-all-keeps-sound A S (t ∷ []) id (distinct-one ht) hid enough
+append-keeps-sound A S t entry ht in-range enough = append-all-keeps-sound A S (t ∷ []) (λ u. entry) (distinct-one ht) (λ u. in-range) enough

@@ -96,16 +96,16 @@ module _ {L : Layout} {T N : ℕ} {p q : List ℕ} (A : Fair L) (G : Together L 
       new-together (eqb (tileWord L p t 0) 0) id (omega (arith, R .first, ap linkTo (u .2), free-block< R (u .0) in-free)))
       (in-together id))
 
-pub append-all-together : {L : Layout} {T N : ℕ} {p q : List ℕ} {s : State} → Fair L → (id : ℕ) → id < L .limit → (ts : List ℕ)
+pub append-all-together : {L : Layout} {T N : ℕ} {p q : List ℕ} {s : State} → Fair L → (entry : ℕ → ℕ) → ((t : ℕ) → entry t < L .limit) → (ts : List ℕ)
     → Together L T N p q → Shows L T N p s → Distinct T ts → needState (L .ids) s ts ≤ length (s .free)
-    → Together L T N (appendAll L T p ts id) (appendAll L T q ts id)
+    → Together L T N (appendAll L T p ts entry) (appendAll L T q ts entry)
 unfolding appendAll needState
-append-all-together A id hid [] G R D enough = G
-append-all-together {L} {T} {N} {p} {q} {s} A id hid (t ∷ ts) G R D enough =
+append-all-together A entry in-range [] G R D enough = G
+append-all-together {L} {T} {N} {p} {q} {s} A entry in-range (t ∷ ts) G R D enough =
     let here : one (multiple (L .ids) (length (tileOf s t .list))) ≤ length (s .free) = omega arith in
     let ht = D .below t (times-head t ts) in
-    append-all-together A id hid ts (append-together A G t ht R id here) (append-step A R (G .long) t id ht hid here .shows) (distinct-rest D)
-    (omega (arith, append-free (L .ids) s t id here, need-other (L .ids) s t id ts (distinct-first D)))
+    append-all-together A entry in-range ts (append-together A G t ht R (entry t) here) (append-step A R (G .long) t (entry t) ht (in-range t) here .shows) (distinct-rest D)
+    (omega (arith, append-free (L .ids) s t (entry t) here, need-other (L .ids) s t (entry t) ts (distinct-first D)))
 
 -- ---- a release
 

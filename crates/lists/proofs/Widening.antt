@@ -56,16 +56,16 @@ unfolding needState
 widen-need ids N n s [] = refl
 widen-need ids N n s (t ∷ ts) = ap (λ (k : ℕ). one (multiple ids (length (tileOf s t .list))) + k) (widen-need ids N n s ts)
 
-pub widen-append-all : (ids T N n : ℕ) (s : State) (ts : List ℕ) (id : ℕ) → Distinct T ts → needState ids s ts ≤ length (s .free)
-    → appendAllState ids (widen N n s) ts id ≡ widen N n (appendAllState ids s ts id)
+pub widen-append-all : (ids T N n : ℕ) (s : State) (ts : List ℕ) (entry : ℕ → ℕ) → Distinct T ts → needState ids s ts ≤ length (s .free)
+    → appendAllState ids (widen N n s) ts entry ≡ widen N n (appendAllState ids s ts entry)
 unfolding appendAllState needState
-widen-append-all ids T N n s [] id D h = refl
-widen-append-all ids T N n s (t ∷ ts) id D h =
+widen-append-all ids T N n s [] entry D h = refl
+widen-append-all ids T N n s (t ∷ ts) entry D h =
     let here : one (multiple ids (length (tileOf s t .list))) ≤ length (s .free) = omega arith in
-    let r = appendState ids s t id in
-    ap (λ (x : State). appendAllState ids x ts id) (widen-append ids N n s t id here)
-    ∙ widen-append-all ids T N n r ts id (distinct-rest D)
-    (omega (arith, append-free ids s t id here, need-other ids s t id ts (distinct-first D)))
+    let r = appendState ids s t (entry t) in
+    ap (λ (x : State). appendAllState ids x ts entry) (widen-append ids N n s t (entry t) here)
+    ∙ widen-append-all ids T N n r ts entry (distinct-rest D)
+    (omega (arith, append-free ids s t (entry t) here, need-other ids s t (entry t) ts (distinct-first D)))
 
 pub widen-release : (N n : ℕ) (s : State) (t : ℕ) → releaseState (widen N n s) t ≡ widen N n (releaseState s t)
 widen-release N n s t = rw (onto-more (tileOf s t .blocks) (s .free) (rising N n))
@@ -119,7 +119,7 @@ module _ {L : Layout} {n : ℕ} {p w : List ℕ} {s : State} (A : Fair L) (W : W
   pub wider-free : headerWord w 4 ≡ headerWord p 4 + n
   wider-free = omega (arith, W .shows .count, W .shows′ .count, length-append (s .free) (rising (blocksOf p) n), length-rising (blocksOf p) n)
 
-  -- the id places of its further blocks hold poison
+  -- the places of its further blocks hold poison
   pub wider-poison : (b : ℕ) → blocksOf p ≤ b → b < blocksOf p + n → (k : ℕ) → k < L .ids → blockWord L (tilesOf w) w b k ≡ L .poison
   wider-poison b lo hi k hk =
       ap (λ (T : ℕ). blockWord L T w b k) wider-tiles
@@ -143,18 +143,18 @@ module _ {L : Layout} {n : ℕ} {p w : List ℕ} {s : State} (A : Fair L) (W : W
         (subst (λ (N : ℕ). Shows L (tilesOf p) (N + n) v (widen N n r)) (sym (keeps-blocks A K)) Q);
   }
 
-  pub wider-append-all : (ts : List ℕ) (id : ℕ) → Distinct (tilesOf p) ts → id < L .limit → need L p ts ≤ headerWord p 4
-      → Wider L n (appendAll L (tilesOf p) p ts id) (appendAll L (tilesOf w) w ts id) (appendAllState (L .ids) s ts id)
-  wider-append-all ts id D hid enough =
+  pub wider-append-all : (ts : List ℕ) (entry : ℕ → ℕ) → Distinct (tilesOf p) ts → ((t : ℕ) → entry t < L .limit) → need L p ts ≤ headerWord p 4
+      → Wider L n (appendAll L (tilesOf p) p ts entry) (appendAll L (tilesOf w) w ts entry) (appendAllState (L .ids) s ts entry)
+  wider-append-all ts entry D in-range enough =
       let N = blocksOf p in
       let fits : needState (L .ids) s ts ≤ length (s .free) = omega (arith, need-shows (W .shows) ts (D .below), W .shows .count) in
-      let I = append-all-shows A id hid ts (W .shows) (W .opened .long) D fits in
-      let J = append-all-shows A id hid ts (W .shows′) room′ D
+      let I = append-all-shows A entry in-range ts (W .shows) (W .opened .long) D fits in
+      let J = append-all-shows A entry in-range ts (W .shows′) room′ D
       (omega (arith, widen-need (L .ids) N n s ts, length-append (s .free) (rising N n))) in
-      subst (λ (T : ℕ). Wider L n (appendAll L (tilesOf p) p ts id) (appendAll L T w ts id) (appendAllState (L .ids) s ts id)) (sym wider-tiles)
+      subst (λ (T : ℕ). Wider L n (appendAll L (tilesOf p) p ts entry) (appendAll L T w ts entry) (appendAllState (L .ids) s ts entry)) (sym wider-tiles)
       (wider-with (kept-keeps (I .1)) (kept-keeps (J .1))
-      (appendAllState (L .ids) s ts id) (I .0)
-      (subst (λ (r : State). Shows L (tilesOf p) (N + n) (appendAll L (tilesOf p) w ts id) r) (widen-append-all (L .ids) (tilesOf p) N n s ts id D fits) (J .0)))
+      (appendAllState (L .ids) s ts entry) (I .0)
+      (subst (λ (r : State). Shows L (tilesOf p) (N + n) (appendAll L (tilesOf p) w ts entry) r) (widen-append-all (L .ids) (tilesOf p) N n s ts entry D fits) (J .0)))
 
   pub wider-release : (t : ℕ) → t < tilesOf p → Wider L n (release L (tilesOf p) p t) (release L (tilesOf w) w t) (releaseState s t)
   wider-release t ht =

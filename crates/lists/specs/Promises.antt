@@ -24,11 +24,11 @@ pub record Kept (L : Layout) (T N : ℕ) (p q : List ℕ) (s r : State) (ts : Li
   -- the tail of the slice
   pub tail : (i : ℕ) → room L T N ≤ i → getD q i 0 ≡ getD p i 0
 
--- q is the sound pool p with one id more at the end of the list of each of the tiles ts
-pub record Appended (L : Layout) (p : List ℕ) (S : Sound L p) (q ts : List ℕ) (id : ℕ) : Type 0 where
+-- q is the sound pool p with one entry more at the end of the list of each of the tiles ts
+pub record Appended (L : Layout) (p : List ℕ) (S : Sound L p) (q ts : List ℕ) (entry : ℕ → ℕ) : Type 0 where
   pub sound : Sound L q
-  pub says : sound .state ≡ appendAllState (L .ids) (S .state) ts id
-  pub gains : (t : ℕ) → 0 < times t ts → listOf L (tilesOf p) q t ≡ listOf L (tilesOf p) p t ++ (id ∷ [])
+  pub says : sound .state ≡ appendAllState (L .ids) (S .state) ts entry
+  pub gains : (t : ℕ) → 0 < times t ts → listOf L (tilesOf p) q t ≡ listOf L (tilesOf p) p t ++ (entry t ∷ [])
   pub others : (u : ℕ) → u < tilesOf p → times u ts ≡ 0 → listOf L (tilesOf p) q u ≡ listOf L (tilesOf p) p u
   -- each mark is what it was, or the length of the list where that is greater
   pub marks : (u : ℕ) → u < tilesOf p → tileWord L q u 3 ≡ max (tileWord L p u 3) (length (listOf L (tilesOf p) q u))

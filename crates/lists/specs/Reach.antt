@@ -1,8 +1,10 @@
 -- What the functions on words ask of numbers: that the words that they name lie in the pool, and that what they count fits a word.
 use Prim.Native.Nat.{ℕ, suc, _+_, _*_, _-_, _^_, _≤_, _<_}
 use mathlib.Core.Path.{_≡_}
+use mathlib.Core.Bool.{Bool}
 use mathlib.Core.List.{List}
 use lib.ListN.{length}
+use Rattle.numbers.specs.Flag.{flagged}
 use Rattle.pool.specs.Words.{Layout, start, headerWord, tileWord}
 use Rattle.pool.specs.Sound.{Sound, tilesOf}
 use Rattle.pool.specs.Editions.{Sized}
@@ -30,10 +32,10 @@ pub record AllAmong (L : Layout) (p : List ℕ) (T : ℕ) (ts : List ℕ) : Type
   pub tiles : T ≡ tilesOf p
   pub distinct : Distinct T ts
 
--- such tiles, to which an id can be appended
+-- such tiles, to which an id can be appended, with a flag or without
 pub record Appendable (L : Layout) (p : List ℕ) (T : ℕ) (ts : List ℕ) (id : ℕ) : Type 0 where
   pub among : AllAmong L p T ts
-  pub in-range : id < L .limit
+  pub in-range : (whole : Bool) → flagged id whole < L .limit
   pub enough : need L p ts ≤ headerWord p 4
 
 -- a tile whose last block has room

@@ -14,31 +14,31 @@ abbrev pub tail : List ℕ → List ℕ
 tail [] = []
 tail (x ∷ xs) = xs
 
--- the mark of a tile that gains an id
+-- the mark of a tile that gains an entry
 abbrev pub raised : Chained → ℕ
 raised x = max (x .mark) (suc (length (x .list)))
 
--- one id more
-abbrev pub withId : Chained → (id : ℕ) → Chained
-withId x id = record { blocks = x .blocks; list = x .list ++ (id ∷ []); mark = raised x }
+-- one entry more
+abbrev pub withEntry : Chained → (entry : ℕ) → Chained
+withEntry x entry = record { blocks = x .blocks; list = x .list ++ (entry ∷ []); mark = raised x }
 
--- one id more, and one block more
-abbrev pub withBlock : Chained → (b id : ℕ) → Chained
-withBlock x b id = record { blocks = x .blocks ++ (b ∷ []); list = x .list ++ (id ∷ []); mark = raised x }
+-- one entry more, and one block more
+abbrev pub withBlock : Chained → (b entry : ℕ) → Chained
+withBlock x b entry = record { blocks = x .blocks ++ (b ∷ []); list = x .list ++ (entry ∷ []); mark = raised x }
 
-abbrev pub inLast : State → (t id : ℕ) → State
-inLast s t id = record { free = s .free; tiles = set (s .tiles) t (withId (tileOf s t) id) }
+abbrev pub inLast : State → (t entry : ℕ) → State
+inLast s t entry = record { free = s .free; tiles = set (s .tiles) t (withEntry (tileOf s t) entry) }
 
-abbrev pub inNew : State → (t id : ℕ) → State
-inNew s t id = record { free = tail (s .free); tiles = set (s .tiles) t (withBlock (tileOf s t) (headOr 0 (s .free)) id) }
+abbrev pub inNew : State → (t entry : ℕ) → State
+inNew s t entry = record { free = tail (s .free); tiles = set (s .tiles) t (withBlock (tileOf s t) (headOr 0 (s .free)) entry) }
 
--- tile t's list gains the id; the head of the free chain joins the tile's chain exactly where its entries are a multiple of `ids`
-abbrev pub appendState : (ids : ℕ) → State → (t id : ℕ) → State
-appendState ids s t id = pick (multiple ids (length (tileOf s t .list))) (inNew s t id) (inLast s t id)
+-- tile t's list gains the entry; the head of the free chain joins the tile's chain exactly where its entries are a multiple of `ids`
+abbrev pub appendState : (ids : ℕ) → State → (t entry : ℕ) → State
+appendState ids s t entry = pick (multiple ids (length (tileOf s t .list))) (inNew s t entry) (inLast s t entry)
 
-unfoldable pub appendAllState : (ids : ℕ) → State → (ts : List ℕ) → (id : ℕ) → State
-appendAllState ids s [] id = s
-appendAllState ids s (t ∷ ts) id = appendAllState ids (appendState ids s t id) ts id
+unfoldable pub appendAllState : (ids : ℕ) → State → (ts : List ℕ) → (entry : ℕ → ℕ) → State
+appendAllState ids s [] entry = s
+appendAllState ids s (t ∷ ts) entry = appendAllState ids (appendState ids s t (entry t)) ts entry
 
 unfoldable pub needState : (ids : ℕ) → State → (ts : List ℕ) → ℕ
 needState ids s [] = 0

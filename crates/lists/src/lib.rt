@@ -1,17 +1,21 @@
-// The lists of a sound pool: the blocks that a list of tiles needs, an append to one tile or to several, a release, and the id at a place.
+// The lists of a sound pool: the blocks that a list of tiles needs, an append to one tile or to several, a release, and the entry at a place.
 // Each contract says the words that are left, whole; what they mean for the lists is in specs/Promises.
 ghost use mathlib.Core.Path.{_≡_};
 ghost use mathlib.Core.List.{[], _∷_};
 ghost use Prim.Native.Nat.{_+_, _*_, _^_, _≤_, _<_, suc, max};
 ghost use lib.ListN.{length, take, getD};
 ghost use Rattle.numbers.specs.Ceil.{ceil};
+ghost use Rattle.numbers.specs.Flag.{plains};
 ghost use Rattle.pool.specs.Words.{start, headerWord, tileWord, blockWord};
 ghost use Rattle.pool.specs.Editions.{layoutFor, Sized};
 ghost use Rattle.pool.specs.Sound.{Sound};
 ghost use Rattle.pool.specs.Lists.{listOf};
-ghost use Rattle.lists.specs.Appending.{need, append, counted, appendIn, takeHead, takeBlock, appendAll};
+ghost use Rattle.lists.specs.Appending.{need, append, counted, appendIn, takeHead, takeBlock, appendNamed};
 ghost use Rattle.lists.specs.Releasing.{fill, giveBlock, release};
 ghost use Rattle.lists.specs.Reach.{TileIn, BlockIn, Among, AllAmong, Appendable, Roomy, Takeable, Givable};
+use numbers::flagged;
+use numbers::is_flagged;
+use numbers::plain;
 use numbers::wide;
 use pool::Edition;
 use pool::POISON;
@@ -92,15 +96,16 @@ pub fn mark(pool: &[u32], layout: Edition, tiles: usize, tile: Tile) -> u32
     tile_word(pool, layout, tile, MARK)
 }
 
-// How many blocks an id more in each of the first `count` named tiles takes.
+// How many blocks an entry more in each of the first `count` named tiles takes. A name is the number of a tile, with a flag or without.
 pub fn need(pool: &[u32], layout: Edition, tiles: usize, named: &[u32], count: usize) -> usize
-    requires { ⌜ (count ≤ length (now named)) × AllAmong (layoutFor layout) (now pool) tiles (take count (now named)) ⌝ }
-    ensures { λ r. ⌜ r ≡ need (layoutFor layout) (now (pool .entry)) (take count (now (named .entry))) ⌝ }
+    requires { ⌜ (count ≤ length (now named)) × AllAmong (layoutFor layout) (now pool) tiles (plains (take count (now named))) ⌝ }
+    ensures { λ r. ⌜ r ≡ need (layoutFor layout) (now (pool .entry)) (plains (take count (now (named .entry)))) ⌝ }
 {
     let mut blocks = 0;
     let mut i = 0;
     while i < count {
-        let entries = tile_word(pool, layout, Tile(named[i]), ENTRIES);
+        let tile = Tile(plain(named[i]));
+        let entries = tile_word(pool, layout, tile, ENTRIES);
         if remainder(layout, wide(entries)) == 0 {
             blocks += 1;
         }
@@ -126,10 +131,10 @@ fn set_entries(pool: &mut [u32], layout: Edition, tile: Tile, entries: u32)
     pool[tile_index(layout, tile, ENTRIES)] = entries;
 }
 
-// One id more in the last block of a tile, which has room.
-fn put_in_last(pool: &mut [u32], layout: Edition, tiles: usize, tile: Tile, id: u32)
+// One entry more in the last block of a tile, which has room.
+fn put_in_last(pool: &mut [u32], layout: Edition, tiles: usize, tile: Tile, entry: u32)
     requires { ⌜ Roomy (layoutFor layout) (now pool) tiles (tile .0) ⌝ }
-    ensures { λ r. ⌜ now (pool .exit) ≡ appendIn (layoutFor layout) tiles (now (pool .entry)) (tile .0) id ⌝ }
+    ensures { λ r. ⌜ now (pool .exit) ≡ appendIn (layoutFor layout) tiles (now (pool .entry)) (tile .0) entry ⌝ }
 {
     let entries = tile_word(pool, layout, tile, ENTRIES);
     let last = tile_word(pool, layout, tile, LAST);
@@ -138,7 +143,7 @@ fn put_in_last(pool: &mut [u32], layout: Edition, tiles: usize, tile: Tile, id: 
         tiles,
         Block(last - 1),
         remainder(layout, wide(entries)),
-    )] = id;
+    )] = entry;
     set_entries(pool, layout, tile, entries + 1);
 }
 
@@ -154,32 +159,32 @@ fn take_head(pool: &mut [u32], layout: Edition, tiles: usize, block: Block)
     pool[link] = 0;
 }
 
-// The head of the free chain is taken for a tile, with one id in it.
-fn take_block(pool: &mut [u32], layout: Edition, tiles: usize, tile: Tile, block: Block, id: u32)
+// The head of the free chain is taken for a tile, with one entry in it.
+fn take_block(pool: &mut [u32], layout: Edition, tiles: usize, tile: Tile, block: Block, entry: u32)
     requires { ⌜ Takeable (layoutFor layout) (now pool) tiles (tile .0) (block .0) ⌝ }
-    ensures { λ r. ⌜ now (pool .exit) ≡ takeBlock (layoutFor layout) tiles (now (pool .entry)) (tile .0) (block .0) id ⌝ }
+    ensures { λ r. ⌜ now (pool .exit) ≡ takeBlock (layoutFor layout) tiles (now (pool .entry)) (tile .0) (block .0) entry ⌝ }
 {
     let entries = tile_word(pool, layout, tile, ENTRIES);
     take_head(pool, layout, tiles, block);
-    pool[block_index(layout, tiles, block, 0)] = id;
+    pool[block_index(layout, tiles, block, 0)] = entry;
     pool[tile_index(layout, tile, LAST)] = block.0 + 1;
     set_entries(pool, layout, tile, entries + 1);
 }
 
-// One id more at the end of a tile's list, where there is a free block if it takes one.
-pub fn append(pool: &mut [u32], layout: Edition, tiles: usize, tile: Tile, id: u32)
+// One entry more at the end of a tile's list, where there is a free block if it takes one.
+pub fn append(pool: &mut [u32], layout: Edition, tiles: usize, tile: Tile, entry: u32)
     requires { ⌜ Among (layoutFor layout) (now pool) tiles (tile .0) ⌝ }
     requires { ⌜ need (layoutFor layout) (now pool) (tile .0 ∷ []) ≤ headerWord (now pool) 4 ⌝ }
-    ensures { λ r. ⌜ now (pool .exit) ≡ append (layoutFor layout) tiles (now (pool .entry)) (tile .0) id ⌝ }
+    ensures { λ r. ⌜ now (pool .exit) ≡ append (layoutFor layout) tiles (now (pool .entry)) (tile .0) entry ⌝ }
 {
     let entries = tile_word(pool, layout, tile, ENTRIES);
     if remainder(layout, wide(entries)) != 0 {
-        put_in_last(pool, layout, tiles, tile, id);
+        put_in_last(pool, layout, tiles, tile, entry);
         return;
     }
     let head = pool[FIRST_FREE];
     let last = tile_word(pool, layout, tile, LAST);
-    take_block(pool, layout, tiles, tile, Block(head - 1), id);
+    take_block(pool, layout, tiles, tile, Block(head - 1), entry);
     if entries == 0 {
         pool[tile_index(layout, tile, FIRST)] = head;
     } else {
@@ -187,7 +192,8 @@ pub fn append(pool: &mut [u32], layout: Edition, tiles: usize, tile: Tile, id: u
     }
 }
 
-// One id more at the end of the list of each of the first `count` named tiles, where there are as many free blocks as that needs.
+// One entry more at the end of the list of each of the first `count` named tiles, the id with the flag of the name, where there are as many free blocks as
+// that needs.
 pub fn append_all(
     pool: &mut [u32],
     layout: Edition,
@@ -196,17 +202,19 @@ pub fn append_all(
     count: usize,
     id: u32,
 )
-    requires { ⌜ (count ≤ length (now named)) × Appendable (layoutFor layout) (now pool) tiles (take count (now named)) id ⌝ }
-    ensures { λ r. ⌜ now (pool .exit) ≡ appendAll (layoutFor layout) tiles (now (pool .entry)) (take count (now (named .entry))) id ⌝ }
+    requires { ⌜ (count ≤ length (now named)) × Appendable (layoutFor layout) (now pool) tiles (plains (take count (now named))) id ⌝ }
+    ensures { λ r. ⌜ now (pool .exit) ≡ appendNamed (layoutFor layout) tiles (now (pool .entry)) (take count (now (named .entry))) id ⌝ }
 {
     let mut i = 0;
     while i < count {
-        append(pool, layout, tiles, Tile(named[i]), id);
+        let word = named[i];
+        let entry = flagged(id, is_flagged(word));
+        append(pool, layout, tiles, Tile(plain(word)), entry);
         i += 1;
     }
 }
 
-// Poison in the first `count` id places of a block.
+// Poison in the first `count` places of a block.
 fn poison_first(pool: &mut [u32], layout: Edition, tiles: usize, block: Block, count: usize)
     requires { ⌜ BlockIn (layoutFor layout) tiles (now pool) (block .0) count ⌝ }
     ensures { λ r. ⌜ now (pool .exit) ≡ fill (layoutFor layout) tiles (now (pool .entry)) (block .0) count ⌝ }
@@ -263,8 +271,8 @@ pub fn release(pool: &mut [u32], layout: Edition, tiles: usize, tile: Tile) -> u
     given
 }
 
-// The id at a place of a tile's list, places counted from 0. It passes from block to block, not from id to id.
-pub fn id_at(pool: &[u32], layout: Edition, tiles: usize, tile: Tile, place: u32) -> u32
+// The entry at a place of a tile's list, places counted from 0. It passes from block to block, not from entry to entry.
+pub fn entry_at(pool: &[u32], layout: Edition, tiles: usize, tile: Tile, place: u32) -> u32
     requires { ⌜ Among (layoutFor layout) (now pool) tiles (tile .0) ⌝ }
     requires { ⌜ place < tileWord (layoutFor layout) (now pool) (tile .0) 0 ⌝ }
     ensures { λ r. ⌜ r ≡ getD (listOf (layoutFor layout) tiles (now (pool .entry)) (tile .0)) place 0 ⌝ }

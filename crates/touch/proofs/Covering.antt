@@ -1,7 +1,7 @@
 -- The test of the edges answers exactly whether a shape covers a rectangle wholly, of every kind of shape and in every winding;
 -- points, lines and triangles without area never do.
 use Prim.Native.Nat.{ℕ, _+_, _<_, _≤_}
-use mathlib.Core.Path.{_≡_, refl, subst}
+use mathlib.Core.Path.{_≡_, refl, sym, subst}
 use mathlib.Core.List.{[], _∷_}
 use mathlib.Core.Logic.{_↔_}
 use native.Mathlib.Omega.{arith}
@@ -265,6 +265,16 @@ pub outline-cover-at-says : {e : Edges} {q : Rectangle} → Outline e → Proper
 outline-cover-at-says {e} {q} o ok area box r h =
     cover-at-says (triangle (starts e)) ok area box r
     (subst (λ (d : Edges). CoverAt r (rowEdges d (q .top) (q .bottom)) (q .left) (q .right)) (o .is) h)
+
+-- so does what is computed of them alone, wherever the box is
+pub outline-enclosed-is-wholly : {e : Edges} {q : Rectangle} → Outline e → HasArea q
+    → EnclosedAt (rowEdges e (q .top) (q .bottom)) (q .left) (q .right) ↔ Wholly (triangle (starts e)) q
+outline-enclosed-is-wholly {e} {q} o area =
+    subst (λ (d : Edges). EnclosedAt (rowEdges d (q .top) (q .bottom)) (q .left) (q .right) ↔ Wholly (triangle (starts e)) q) (sym (o .is))
+    (
+      (λ h. enclosed-is-wholly (triangle (starts e)) area .0 (record { ab = h .ab; bc = h .bc; ca = h .ca })),
+      λ w. let h = enclosed-is-wholly (triangle (starts e)) area .1 w in record { ab = h .ab; bc = h .bc; ca = h .ca },
+    )
 
 -- ---- a shape covers as the triangle of its three vertices does
 

@@ -1,4 +1,5 @@
--- Each shape has its list of touched tiles, on every screen within the rules: whether a tile is touched is decided by the corner test, tile by tile.
+-- Each shape has its list of touched tiles and its flags, on every screen within the rules: whether a tile is touched, and whether it is wholly covered, is
+-- decided by the corners, tile by tile.
 use Prim.Native.Nat.{ℕ, zero, suc, _+_, _≤_, _<_}
 use mathlib.Core.Path.{_≡_, refl, subst}
 use mathlib.Core.Bool.{Bool, true, false}
@@ -10,14 +11,14 @@ use Rattle.numbers.specs.Says.{Says}
 use Rattle.screen.specs.declared.Screen.{Screen}
 use Rattle.screen.specs.Screen.{Allowed, tiles}
 use Rattle.screen.specs.Rectangle.{rectangle}
-use Rattle.screen.proofs.Laws.{rectangle-proper, column<, row<}
+use Rattle.screen.proofs.Laws.{rectangle-proper, rectangle-has-area, column<, row<}
 use Rattle.shape.specs.declared.Shape.{Shape}
 use Rattle.touch.specs.Touches.{Touches}
-use Rattle.touch.proofs.Answers.{corner-says-touching}
-use Rattle.walk.specs.Touched.{TouchedTiles}
+use Rattle.touch.proofs.Answers.{corner-says-touching, enclosed, enclosed-says-wholly}
+use Rattle.walk.specs.Touched.{TouchedTiles, FlagsOf}
 use Rattle.walk.specs.Lists.{IsTouched, Below, Lists}
 use Rattle.walk.proofs.Lists.{lists-none, lists-iff, lists-run, lists-skip, lists-few, run-none, run-more}
-use Rattle.walk.proofs.Touched.{lists-walked}
+use Rattle.walk.proofs.Touched.{lists-touched}
 
 -- ---- what is decided of each number can be listed
 
@@ -70,4 +71,10 @@ module _ (d : Screen) (a : Allowed d) (shape : Shape) where
       let long = length-replicate {A = ℕ} (tiles d) 0 in
       let l = listing (IsTouched d shape) (tiles d) touched-decided (replicate {A = ℕ} (tiles d) 0) (omega arith) (tiles d) (omega arith) in
       let all = lists-iff (Below (tiles d) (IsTouched d shape)) (IsTouched d shape) (λ t p. p .1) (λ t p. (p .0, p)) (l .lists) in
-      (take (l .count) (l .new), lists-walked (omega arith) all .touched)
+      (take (l .count) (l .new), lists-touched (omega arith) all)
+
+  pub flags-exist : (flag : ℕ → Bool) × FlagsOf d shape flag
+  flags-exist = (
+    (λ t. enclosed shape (rectangle d t)),
+    λ t h. enclosed-says-wholly shape (rectangle d t) (rectangle-has-area d a (column< d a t) (row< d a t h)),
+  )

@@ -1,26 +1,35 @@
 -- A row of the walk: what its columns' tests say of its tiles, and how its run adds the touched tiles of the row to those of the rows before it.
 use Prim.Native.Nat.{ℕ, _+_, _*_, _-_, _≤_, _<_}
 use mathlib.Core.Path.{_≡_, sym, ap, subst, _∙_}
+use mathlib.Core.Bool.{Bool}
 use mathlib.Core.List.{List}
 use mathlib.Core.Logic.{_↔_}
 use native.Mathlib.Omega.{arith}
 use native.Mathlib.Nat.{mul-le-mul-left}
 use lib.ListN.{length, set}
 use Rattle.numbers.proofs.Diff.{≤ℤ-trans}
+use Rattle.numbers.specs.Flag.{flag, flagged, isFlagged, plains}
+use Rattle.numbers.proofs.Flag.{plain-flagged, is-flagged, set-plains, length-plains}
+use Rattle.numbers.specs.Says.{Says}
+use Rattle.numbers.proofs.Says.{says-iff}
 use Rattle.screen.specs.declared.Screen.{Screen}
+use Rattle.screen.specs.declared.Rectangle.{Rectangle}
 use Rattle.screen.specs.declared.Span.{Span}
 use Rattle.screen.specs.Screen.{Allowed, across, columns, rows, rowOf}
 use Rattle.screen.specs.Rectangle.{near, far, rectangleAt, rectangle, In}
-use Rattle.screen.proofs.Laws.{near≥, near-far, far≤, rectangle-proper, column-row, column<, row<, row-is, column-is, tile<}
+use Rattle.screen.proofs.Laws.{near≥, near-far, far≤, rectangle-proper, rectangle-has-area, column-row, column<, row<, row-is, column-is, tile<}
 use Rattle.touch.specs.declared.Edges.{Edges}
+use Rattle.touch.specs.declared.RowEdges.{RowEdges}
 use Rattle.touch.specs.Touches.{Touches}
+use Rattle.touch.specs.Cover.{Wholly}
 use Rattle.touch.specs.Edges.{Outline, rowEdges, Within}
+use Rattle.touch.proofs.Covering.{outline-enclosed-is-wholly}
 use Rattle.touch.proofs.Gaps.{row-of-tiles-has-no-gap}
 use Rattle.touch.proofs.Sizes.{side-within}
 use Rattle.touch.proofs.Theorem.{touching-meets-box, outline-clear-is-touching}
-use Rattle.walk.specs.Lists.{IsTouched, Below, Lists, ListsBefore}
-use Rattle.walk.specs.Row.{ClearIn, First, RunIn, outlined, MeetingColumns, MeetingRows, MeetsRow}
-use Rattle.walk.proofs.Lists.{lists-none, lists-iff, lists-run, lists-skip, run-none, run-more}
+use Rattle.walk.specs.Lists.{IsTouched, Flagged, Below, Lists, ListsBefore, Words, Before}
+use Rattle.walk.specs.Row.{ClearIn, EnclosedIn, Tested, First, Run, RunIn, outlined, MeetingColumns, MeetingRows, MeetsRow}
+use Rattle.walk.proofs.Lists.{lists-none, lists-iff, lists-run, lists-skip, run-none, run-more, words-none, words-more, words-then, words-map}
 
 -- ---- the sides of a tile are of a size that the test takes
 
@@ -30,6 +39,26 @@ module _ (extent s : ℕ) (e≤ : extent ≤ 4096) (s≥ : 3 ≤ s) (s≤ : s �
 
   pub far-within : Within 524288 (far extent s k)
   far-within = side-within (≤ℤ-trans (near≥ extent s e≤ s≥ s≤ k<) (near-far extent s e≤ s≥ s≤ k<)) (far≤ extent s e≤ s≥ s≤ k<)
+
+-- ---- the word of a tile
+
+-- it names the tile, with the flag that its test gave
+pub tested : (d : Screen) (e : RowEdges) {base column : ℕ} {whole : Bool} → base + column < flag → column < columns d → Says whole (EnclosedIn d e column)
+    → Tested d e base (flagged (base + column) whole)
+tested d e {base} {column} {whole} h k s = record {
+  column = column;
+  within = k;
+  number = plain-flagged (base + column) h whole;
+  says = subst (λ (r : Bool). Says r (EnclosedIn d e column)) (sym (is-flagged (base + column) h whole)) s;
+}
+
+-- and goes on with a run
+pub run-named : (Q : ℕ → Type 0) {base from stop count n : ℕ} (old new : List ℕ) → Run Q base from stop count n (plains old) (plains new) → Q stop
+    → n < length new → base + stop < flag → (whole : Bool) → Run Q base from (stop + 1) count (n + 1) (plains old) (plains (set new n (flagged (base + stop) whole)))
+run-named Q {base} {from} {stop} {count} {n} old new r q h k whole =
+    subst (λ (xs : List ℕ). Run Q base from (stop + 1) count (n + 1) (plains old) xs)
+    (sym (set-plains new n (flagged (base + stop) whole) ∙ ap (set (plains new) n) (plain-flagged (base + stop) k whole)))
+    (run-more Q base r q (rw (length-plains new) h))
 
 -- ---- the tiles of a row
 
@@ -46,8 +75,11 @@ module _ (d : Screen) (a : Allowed d) (e : Edges) (o : Outline e) (row : ℕ) (r
   abbrev P : ℕ → Type 0
   P t = IsTouched d (outlined e) t
 
+  abbrev E : RowEdges
+  E = rowEdges e (near (d .height) (d .s) row) (far (d .height) (d .s) row)
+
   abbrev Q : ℕ → Type 0
-  Q column = ClearIn d (rowEdges e (near (d .height) (d .s) row) (far (d .height) (d .s) row)) column
+  Q column = ClearIn d E column
 
   abbrev base : ℕ
   base = row * columns d
@@ -63,6 +95,14 @@ module _ (d : Screen) (a : Allowed d) (e : Edges) (o : Outline e) (row : ℕ) (r
 
   clear-touched : {k : ℕ} → In span k → Q k → P (base + k)
   clear-touched {k} i q = (tile< d a (in-columns i) r<, subst (Touches (outlined e)) (sym (tile-rectangle d a k row (in-columns i))) (test i .0 q))
+
+  -- the flag of a word that names a tile of the row
+  pub tested-flagged : (w : ℕ) → Tested d E base w → Flagged d (outlined e) w
+  tested-flagged w h =
+      let same = outline-enclosed-is-wholly o (rectangle-has-area d a (h .within) r<) in
+      subst (λ (q : Rectangle). Says (isFlagged w) (Wholly (outlined e) q))
+      (sym (ap (rectangle d) (h .number) ∙ tile-rectangle d a (h .column) row (h .within)))
+      (says-iff (same .0) (same .1) (h .says))
 
   record Column (t : ℕ) : Type 0 where
     k : ℕ
@@ -147,6 +187,28 @@ module _ (d : Screen) (a : Allowed d) (e : Edges) (o : Outline e) (row : ℕ) (r
           let g = row-of-tiles-has-no-gap d a (outlined e) row {c₁ = first} {c₂ = r .stop} {c₃ = w .k} (omega arith) stop≤ (in-columns i)
           (test here .0 (f .first l)) (w .touches) in
           r .ends stop< (test at .1 g)
+
+  -- with the words that name it
+  pub row-named : {first count n : ℕ} {whole : Bool} (old mid new : List ℕ) → First Q span first → first < span .end → Says whole (EnclosedIn d E first)
+      → count < length mid
+      → RunIn Q base (record { start = first + 1; end = span .end }) (count + 1) n (plains (set mid count (flagged (base + first) whole))) (plains new)
+      → Words (Tested d E base) (count + 1) n (set mid count (flagged (base + first) whole)) new
+      → Before d (outlined e) row count old mid → Before d (outlined e) (row + 1) n old new
+  row-named {first} {count} {n} {whole} old mid new f l says room r ws g =
+      let first< : first < columns d = in-columns (record { from = f .from; before = l }) in
+      let small : base + first < flag = omega (arith, row-room d a r<) in
+      let as-many = r .run .as-many in
+      let from≤ = r .run .from≤ in
+      let w = flagged (base + first) whole in
+      (
+        row-with f l (rw (length-plains mid) room)
+            (subst (λ (xs : List ℕ). RunIn Q base (record { start = first + 1; end = span .end }) (count + 1) n xs (plains new))
+            (set-plains mid count w ∙ ap (set (plains mid) count) (plain-flagged (base + first) small whole)) r)
+            (g .0),
+        words-then (omega arith) (omega arith) (g .1)
+            (words-map (Flagged d (outlined e)) tested-flagged
+            (words-then (omega arith) (omega arith) (words-more (omega arith) (words-none count mid) w (tested d E small first< says) room) ws)),
+      )
 
 -- ---- the rows of the walk
 

@@ -7,7 +7,7 @@ use native.Mathlib.Omega.{arith}
 use lib.ListN.{length, getD, set, length-set}
 use lib.Seq.{getD-set-same, getD-set-other}
 use Rattle.numbers.proofs.Ceil.{lt-or-ge}
-use Rattle.walk.specs.Lists.{Below, Place, Lists}
+use Rattle.walk.specs.Lists.{Below, Place, Lists, Words}
 use Rattle.walk.specs.Row.{Run}
 
 -- what holds from a number on and before n, and at n, holds before n + 1
@@ -153,6 +153,38 @@ module _ (Q : ℕ → Type 0) (base : ℕ) where
           = subst (λ (j : ℕ). getD (set new n (base + stop)) j 0 ≡ base + stop) k (getD-set-same new n (base + stop) 0 h) in
           let e = r .as-many in
           omega arith)
+
+-- ---- words
+
+module _ {F : ℕ → Type 0} where
+  pub words-none : (n : ℕ) (old : List ℕ) → Words F n n old old
+  words-none n old = record { size = refl; each = λ i l h. absurd (omega arith); under = λ i l. refl; over = λ i l. refl }
+
+  pub words-more : {from n : ℕ} {old new : List ℕ} → from ≤ n → Words F from n old new → (w : ℕ) → F w → n < length new → Words F from (n + 1) old (set new n w)
+  words-more {from} {n} {old} {new} le k w f h =
+      record {
+        size = length-set new n w ∙ k .size;
+        each =
+            up-to (λ i l g. subst F (sym (getD-set-other new n i w 0 (λ d. omega arith))) (k .each i l g))
+            (subst F (sym (getD-set-same new n w 0 h)) f);
+        under = λ i l. getD-set-other new n i w 0 (λ d. omega arith) ∙ k .under i l;
+        over = λ i l. getD-set-other new n i w 0 (λ d. omega arith) ∙ k .over i (omega arith);
+      }
+
+  -- words after words
+  pub words-then : {from m n : ℕ} {old mid new : List ℕ} → from ≤ m → m ≤ n → Words F from m old mid → Words F m n mid new → Words F from n old new
+  words-then {from} {m} {n} {old} {mid} {new} le le′ k l =
+      record {
+        size = l .size ∙ k .size;
+        each =
+            λ i a b.
+            ⊎-elim (λ (u : i < m). subst F (sym (l .under i u)) (k .each i a u)) (λ (u : m ≤ i). l .each i u b) (lt-or-ge i m);
+        under = λ i a. l .under i (omega arith) ∙ k .under i a;
+        over = λ i a. l .over i a ∙ k .over i (omega arith);
+      }
+
+  pub words-map : (G : ℕ → Type 0) {from n : ℕ} {old new : List ℕ} → ((w : ℕ) → F w → G w) → Words F from n old new → Words G from n old new
+  words-map G f k = record { size = k .size; each = λ i l h. f _ (k .each i l h); under = k .under; over = k .over }
 
 -- ---- what is listed is determined
 

@@ -7,13 +7,15 @@ use native.Mathlib.Decide.{decLe}
 use native.Mathlib.Omega.{arith}
 use lib.ListN.{length, getD, take}
 use lib.Seq.{length-take-le, getD-take, ext-getD}
+use Rattle.numbers.specs.Flag.{plains}
+use Rattle.numbers.proofs.Flag.{length-plains, take-plains}
 use Rattle.screen.specs.declared.Screen.{Screen}
 use Rattle.screen.specs.Screen.{tiles}
 use Rattle.screen.specs.Rectangle.{rectangle}
 use Rattle.shape.specs.declared.Shape.{Shape}
 use Rattle.touch.specs.Touches.{Touches}
 use Rattle.walk.specs.Touched.{TouchedTiles, Walked}
-use Rattle.walk.specs.Lists.{IsTouched, Place, Lists}
+use Rattle.walk.specs.Lists.{IsTouched, Flagged, Place, Lists, Words}
 use Rattle.numbers.proofs.Ceil.{lt-or-ge}
 use Rattle.walk.proofs.Lists.{lists-few, lists-as-long, lists-same}
 
@@ -82,23 +84,29 @@ touched-or-not {d} {shape} {ts} h t l =
 
 -- ---- the walk's list
 
-pub lists-walked : {d : Screen} {shape : Shape} {n : ℕ} {old new : List ℕ} → tiles d ≤ length old → Lists (IsTouched d shape) n old new → Walked d shape n old new
-lists-walked {d} {shape} {n} {old} {new} room l =
-    let few = lists-few n l (λ t p. p .0) in
-    let size = l .size in
-    let long : length (take n new) ≡ n = length-take-le n new (omega arith) in
-    record {
-      touched =
-          record {
-            rising = λ i h. rw (getD-take n new i 0 (omega arith), getD-take n new (suc i) 0 (omega arith)) (l .rising i (suc i) (omega arith) (omega arith));
-            touched = λ i h. subst (IsTouched d shape) (sym (getD-take n new i 0 (omega arith))) (l .sound i (omega arith));
-            all =
-                λ t h p.
-                let w = l .whole t (h, p) in
-                let b = w .before in
-                (w .index, omega arith, getD-take n new (w .index) 0 b ∙ w .there);
-          };
-      few = few;
-      size = l .size;
-      rest = l .rest;
-    }
+module _ {d : Screen} {shape : Shape} {n : ℕ} where
+  pub lists-touched : {old new : List ℕ} → tiles d ≤ length old → Lists (IsTouched d shape) n old new → TouchedTiles d shape (take n new)
+  lists-touched {old} {new} room l =
+      let few = lists-few n l (λ t p. p .0) in
+      let size = l .size in
+      let long : length (take n new) ≡ n = length-take-le n new (omega arith) in
+      record {
+        rising = λ i h. rw (getD-take n new i 0 (omega arith), getD-take n new (suc i) 0 (omega arith)) (l .rising i (suc i) (omega arith) (omega arith));
+        touched = λ i h. subst (IsTouched d shape) (sym (getD-take n new i 0 (omega arith))) (l .sound i (omega arith));
+        all =
+            λ t h p.
+            let w = l .whole t (h, p) in
+            let b = w .before in
+            (w .index, omega arith, getD-take n new (w .index) 0 b ∙ w .there);
+      }
+
+  -- with the words that name them
+  pub lists-walked : {old new : List ℕ} → tiles d ≤ length old → Lists (IsTouched d shape) n (plains old) (plains new) → Words (Flagged d shape) 0 n old new
+      → Walked d shape n old new
+  lists-walked {old} {new} room l k = record {
+    touched = subst (TouchedTiles d shape) (sym (take-plains n new)) (lists-touched (omega (arith, length-plains old)) l);
+    flags = λ i h. k .each i (omega arith) h;
+    few = lists-few n l (λ t p. p .0);
+    size = k .size;
+    rest = k .over;
+  }

@@ -1,3 +1,3 @@
-pub mod Touched
 pub mod Lists
+pub mod Touched
 pub mod Row

@@ -3,20 +3,40 @@ use Prim.Native.Nat.{ℕ, _+_, _≤_, _<_}
 use mathlib.Core.Path.{_≡_}
 use mathlib.Core.List.{List}
 use lib.ListN.{length, getD}
+use Rattle.numbers.specs.Flag.{plain, isFlagged}
+use Rattle.numbers.specs.Says.{Says}
 use Rattle.screen.specs.declared.Screen.{Screen}
 use Rattle.screen.specs.declared.Span.{Span}
+use Rattle.screen.specs.Screen.{columns}
 use Rattle.screen.specs.Rectangle.{near, far, Meets, Meeting}
 use Rattle.shape.specs.declared.Shape.{Shape}
 use Rattle.touch.specs.declared.Three.{Three}
 use Rattle.touch.specs.declared.Edges.{Edges}
 use Rattle.touch.specs.declared.RowEdges.{RowEdges}
+use Rattle.touch.specs.declared.Cover as answer
 use Rattle.touch.specs.Corner.{bounds, triangle}
 use Rattle.touch.specs.Edges.{starts, Clear}
+use Rattle.touch.specs.Inner.{EnclosedAt, CoverAt}
 use Rattle.walk.specs.declared.Spans.{Spans}
 
 -- no edge separates the tile of that column
 abbrev pub ClearIn : Screen → RowEdges → ℕ → Type 0
 ClearIn d e column = Clear e (near (d .width) (d .s) column) (far (d .width) (d .s) column)
+
+-- every edge has its corners on the inner side
+abbrev pub EnclosedIn : Screen → RowEdges → ℕ → Type 0
+EnclosedIn d e column = EnclosedAt e (near (d .width) (d .s) column) (far (d .width) (d .s) column)
+
+-- what an answer says of it
+abbrev pub CoverIn : answer.Cover → Screen → RowEdges → ℕ → Type 0
+CoverIn r d e column = CoverAt r e (near (d .width) (d .s) column) (far (d .width) (d .s) column)
+
+-- the word w names the tile of a column, and its flag says whether that tile is enclosed; base is the number of the row's first tile
+pub record Tested (d : Screen) (e : RowEdges) (base w : ℕ) : Type 0 where
+  pub column : ℕ
+  pub within : column < columns d
+  pub number : plain w ≡ base + column
+  pub says : Says (isFlagged w) (EnclosedIn d e column)
 
 -- r is the first column of the span with P, or one past the span where it has none
 pub record First (P : ℕ → Type 0) (span : Span) (r : ℕ) : Type 0 where

@@ -1,19 +1,22 @@
-// The row walk: the tiles that a shape touches, once each, in rising number. Row by row in the bounding box, left to right; a row is left after its run of touched tiles.
-// No tile outside the box is tested, and none twice.
+// The row walk: the tiles that a shape touches, once each, in rising number, with a flag for those that it covers wholly. Row by row in the bounding box, left to
+// right; a row is left after its run of touched tiles. No tile outside the box is tested, and none twice.
 ghost use mathlib.Core.List.{List};
 ghost use Prim.Native.Nat.{ℕ, _+_, _*_, _≤_, _<_};
 ghost use lib.ListN.{length};
+ghost use Rattle.numbers.specs.Flag.{plains};
 ghost use Rattle.numbers.specs.Says.{Says};
 ghost use Rattle.screen.specs.Screen.{Allowed, columns, rows, tiles};
 ghost use Rattle.shape.specs.Shape.{InRange};
 ghost use Rattle.touch.specs.Edges.{AllPlaced, Outline, RowEdgesRange};
 ghost use Rattle.walk.specs.Touched.{Walked};
-ghost use Rattle.walk.specs.Lists.{IsTouched, Lists, ListsBefore};
-ghost use Rattle.walk.specs.Row.{ClearIn, First, RunIn, outlined, MeetingBox, MeetingColumns, MeetingRows, MeetsRow};
+ghost use Rattle.walk.specs.Lists.{IsTouched, Flagged, Lists, Words, Before};
+ghost use Rattle.walk.specs.Row.{ClearIn, EnclosedIn, CoverIn, Tested, First, RunIn, outlined, MeetingBox, MeetingColumns, MeetingRows, MeetsRow};
+use numbers::flagged;
 use numbers::wide;
 use screen::Screen;
 use screen::Span;
 use shape::Shape;
+use touch::Cover;
 use touch::Edges;
 use touch::RowEdges;
 use touch::Three;
@@ -24,33 +27,47 @@ pub struct Spans {
     pub rows: Span,
 }
 
-// Whether no edge separates the tile of a column.
-fn clear_in(screen: Screen, edges: RowEdges, column: u32) -> bool
+// Where the run of a row starts: its first column, and whether the tile there is wholly covered.
+struct Start {
+    column: u32,
+    whole: bool,
+}
+
+// How the shape covers the tile of a column.
+fn cover_in(screen: Screen, edges: RowEdges, column: u32) -> Cover
     requires { ⌜ (Allowed screen) × (RowEdgesRange edges) × (column < columns screen) ⌝ }
-    ensures { λ r. ⌜ Says r (ClearIn screen edges column) ⌝ }
+    ensures { λ r. ⌜ CoverIn r screen edges column ⌝ }
 {
     let left = screen::near_side(screen.width, screen.s, column);
     let right = screen::far_side(screen.width, screen.s, column);
-    touch::clear(edges, left, right)
+    touch::cover_at(edges, left, right)
 }
 
-// The first clear column of a span, or one past the span where it has none.
-fn first_clear(screen: Screen, edges: RowEdges, span: Span) -> u32
+// The first column of a span whose tile is touched, or one past the span where there is none.
+fn first_touched(screen: Screen, edges: RowEdges, span: Span) -> Start
     requires { ⌜ (Allowed screen) × (RowEdgesRange edges) × (span .end ≤ columns screen) ⌝ }
-    ensures { λ r. ⌜ First (ClearIn screen edges) span r ⌝ }
+    ensures column { λ r. ⌜ First (ClearIn screen edges) span (r .column) ⌝ }
+    ensures whole { λ r. ⌜ (r .column < span .end → Says (r .whole) (EnclosedIn screen edges (r .column))) ⌝ }
 {
     let end = span.end;
     let mut column = span.start;
     while column < end {
-        if clear_in(screen, edges, column) {
-            return column;
+        let cover = cover_in(screen, edges, column);
+        if touch::is_touched(cover) {
+            return Start {
+                column,
+                whole: touch::is_whole(cover),
+            };
         }
         column += 1;
     }
-    column
+    Start {
+        column,
+        whole: false,
+    }
 }
 
-// Writes the numbers of the tiles in the run that starts with the span, from place count on, and answers the place after the last.
+// Writes the numbers of the tiles in the run that starts with the span, with their flags, from place count on, and answers the place after the last.
 fn append_run(
     screen: Screen,
     edges: RowEdges,
@@ -61,18 +78,20 @@ fn append_run(
 ) -> u32
     requires { ⌜ (Allowed screen) × (RowEdgesRange edges) × (span .end ≤ columns screen) × (span .start ≤ span .end) ⌝ }
     requires { ⌜ (count ≤ base + span .start) × (base + span .end ≤ 4096) × (4096 ≤ length (now list)) ⌝ }
-    ensures { λ r. ⌜ RunIn (ClearIn screen edges) base span count r (now (list .entry)) (now (list .exit)) ⌝ }
+    ensures run { λ r. ⌜ RunIn (ClearIn screen edges) base span count r (plains (now (list .entry))) (plains (now (list .exit))) ⌝ }
+    ensures words { λ r. ⌜ Words (Tested screen edges base) count r (now (list .entry)) (now (list .exit)) ⌝ }
 {
     let start = span.start;
     let past = span.end;
     let mut column = start;
     let mut n = count;
     while column < past {
-        if !clear_in(screen, edges, column) {
+        let cover = cover_in(screen, edges, column);
+        if !touch::is_touched(cover) {
             return n;
         }
         let at = wide(n);
-        list[at] = base + column;
+        list[at] = flagged(base + column, touch::is_whole(cover));
         n += 1;
         column += 1;
     }
@@ -84,25 +103,25 @@ fn walk_row(screen: Screen, edges: Edges, row: u32, span: Span, list: &mut [u32]
     requires { ⌜ (Allowed screen) × (Outline edges) × (MeetingColumns screen edges span) ⌝ }
     requires { ⌜ (row < rows screen) × (MeetsRow screen edges row) ⌝ }
     requires { ⌜ (count ≤ row * columns screen) × (4096 ≤ length (now list)) ⌝ }
-    ensures { λ r. ⌜ ((old : List ℕ) → ListsBefore screen (outlined edges) row count old (now (list .entry)) → ListsBefore screen (outlined edges) (row + 1) r old (now (list .exit))) ⌝ }
+    ensures { λ r. ⌜ ((old : List ℕ) → Before screen (outlined edges) row count old (now (list .entry)) → Before screen (outlined edges) (row + 1) r old (now (list .exit))) ⌝ }
 {
     let top = screen::near_side(screen.height, screen.s, row);
     let bottom = screen::far_side(screen.height, screen.s, row);
     let in_row = touch::row_edges(edges, top, bottom);
     let end = span.end;
-    let first = first_clear(screen, in_row, span);
-    if end <= first {
+    let first = first_touched(screen, in_row, span);
+    if end <= first.column {
         return count;
     }
     let base = row * screen::columns_of(screen);
     let at = wide(count);
-    list[at] = base + first;
+    list[at] = flagged(base + first.column, first.whole);
     append_run(
         screen,
         in_row,
         base,
         Span {
-            start: first + 1,
+            start: first.column + 1,
             end,
         },
         list,
@@ -114,7 +133,8 @@ fn walk_row(screen: Screen, edges: Edges, row: u32, span: Span, list: &mut [u32]
 fn walk_rows(screen: Screen, edges: Edges, columns: Span, rows: Span, list: &mut [u32]) -> u32
     requires { ⌜ (Allowed screen) × (Outline edges) × (MeetingColumns screen edges columns) × (MeetingRows screen edges rows) ⌝ }
     requires { ⌜ 4096 ≤ length (now list) ⌝ }
-    ensures { λ r. ⌜ Lists (IsTouched screen (outlined edges)) r (now (list .entry)) (now (list .exit)) ⌝ }
+    ensures numbers { λ r. ⌜ Lists (IsTouched screen (outlined edges)) r (plains (now (list .entry))) (plains (now (list .exit))) ⌝ }
+    ensures words { λ r. ⌜ Words (Flagged screen (outlined edges)) 0 r (now (list .entry)) (now (list .exit)) ⌝ }
 {
     let end = rows.end;
     let mut row = rows.start;
@@ -137,7 +157,8 @@ pub fn box_spans(screen: Screen, vertices: Three) -> Spans
     Spans { columns, rows }
 }
 
-// Writes the numbers of the tiles that the shape touches, rising, at the front of the list, and answers how many there are.
+// Writes the numbers of the tiles that the shape touches, rising, at the front of the list, each with a flag that says whether the shape covers the tile
+// wholly, and answers how many there are.
 pub fn touched_tiles(screen: Screen, shape: Shape, list: &mut [u32]) -> u32
     requires { ⌜ (Allowed screen) × (InRange shape) × (4096 ≤ length (now list)) ⌝ }
     ensures { λ r. ⌜ Walked screen shape r (now (list .entry)) (now (list .exit)) ⌝ }

@@ -2,14 +2,17 @@
 use mathlib.Core.Path.{sym, ap, subst, _∙_}
 use native.Mathlib.Omega.{arith}
 use borrow.Author.Needs.{needs}
+use Rattle.numbers.specs.Flag.{plains}
+use Rattle.numbers.proofs.Says.{says-iff}
 use Rattle.touch.specs.declared.Edges.{Edges}
 use Rattle.touch.specs.Corner.{three}
 use Rattle.touch.specs.Edges.{AllPlaced, edgesOf, Outline}
 use Rattle.touch.proofs.Sizes.{three-placed, outline}
 use Rattle.touch.proofs.Weights.{touches-as-triangle}
-use Rattle.walk.specs.Lists.{IsTouched, Lists}
+use Rattle.touch.proofs.Covering.{wholly-as-triangle}
+use Rattle.walk.specs.Lists.{IsTouched, Flagged, Lists, Words}
 use Rattle.walk.specs.Row.{outlined, MeetingColumns, MeetingRows}
-use Rattle.walk.proofs.Lists.{lists-iff}
+use Rattle.walk.proofs.Lists.{lists-iff, words-map}
 use Rattle.walk.proofs.Touched.{lists-walked}
 use Rattle.walk.proofs.touched_tiles.Statement.{statement}
 use Rattle.walk.proofs.touched_tiles.Tie as tie
@@ -54,11 +57,15 @@ returns c =
     let edges = c .before .before .before .before .edges-of .ensures ∙ ap edgesOf (c .before .before .before .before .before .before .three-of .ensures) in
     let room = s .pre .0 .tiles≤ in
     let long = s .pre .2 in
+    let old = s .args .list .now in
+    let new = walked .last .1 .1 .1 .1 .0 in
     lists-walked (omega arith)
     (lists-iff (IsTouched d (outlined (edgesOf (three shape)))) (IsTouched d shape)
     (λ t p. (p .0, touches-as-triangle shape .1 (p .1)))
     (λ t p. (p .0, touches-as-triangle shape .0 (p .1)))
-    (subst (λ (e : Edges). Lists (IsTouched d (outlined e)) (walked .result) (s .args .list .now) (walked .last .1 .1 .1 .1 .0)) edges (walked .ensures)))
+    (subst (λ (e : Edges). Lists (IsTouched d (outlined e)) (walked .result) (plains old) (plains new)) edges (walked .ensures .0)))
+    (words-map (Flagged d shape) (λ w h. says-iff (wholly-as-triangle shape .1) (wholly-as-triangle shape .0) h)
+    (subst (λ (e : Edges). Words (Flagged d (outlined e)) 0 (walked .result) old new) edges (walked .ensures .1)))
 
 pub touched-tiles-spec : {M : Type 1} → statement M
 touched-tiles-spec =

@@ -3,22 +3,23 @@ use Prim.Native.Nat.{_≤_, _-_}
 use native.Mathlib.Omega.{arith}
 use borrow.Author.Needs.{needs}
 use Rattle.screen.specs.Rectangle.{In}
-use Rattle.walk.specs.Lists.{ListsBefore}
+use Rattle.walk.specs.Lists.{Before}
 use Rattle.walk.specs.Row.{outlined}
-use Rattle.walk.proofs.Lists.{lists-few}
+use Rattle.numbers.specs.Flag.{plains}
+use Rattle.walk.proofs.Lists.{lists-few, words-none}
 use Rattle.walk.proofs.Grid.{rows-none, rows-all}
 use Rattle.walk.proofs.walk_rows.Statement.{statement}
 use Rattle.walk.proofs.walk_rows.Tie as tie
 
 abbrev Inv-loop : tie.InvT-loop
 Inv-loop screen edges columns list₀ end row₀ count₀ list row count =
-    (row₀ ≤ row) × ListsBefore screen (outlined edges) row count list₀ list
+    (row₀ ≤ row) × Before screen (outlined edges) row count list₀ list
 
 abbrev μ-loop : tie.MeasureT-loop
 μ-loop screen edges columns list₀ end row₀ count₀ list row count = end - row
 
 loop-holds : tie.Need-loop-holds Inv-loop μ-loop
-loop-holds c = let s = c .before in (search needs, rows-none (s .args .screen) (s .pre .0 .0) (s .args .edges) (s .args .rows) (s .pre .0 .3) (s .args .list .now))
+loop-holds c = let s = c .before in (search needs, (rows-none (s .args .screen) (s .pre .0 .0) (s .args .edges) (s .args .rows) (s .pre .0 .3) (plains (s .args .list .now)), words-none 0 (s .args .list .now)))
 
 walk-row-requires : tie.Need-walk-row-requires Inv-loop μ-loop
 walk-row-requires c κs =
@@ -27,11 +28,11 @@ walk-row-requires c κs =
     let rows = s .pre .0 .3 in
     let in-rows : In (s .args .rows) (l .row) = record { from = l .inv .0; before = search needs } in
     let within = rows .within in
-    let size = l .inv .1 .size in (
+    let size = l .inv .1 .1 .size in (
       (s .pre .0 .0, s .pre .0 .1, s .pre .0 .2),
       (
         (omega arith, rows .sound (l .row) in-rows),
-        (lists-few (l .count) (l .inv .1) (λ t p. p .0), omega arith),
+        (lists-few (l .count) (l .inv .1 .0) (λ t p. p .0), omega arith),
       ),
     )
 
@@ -45,12 +46,12 @@ loop-again : tie.Need-loop-again Inv-loop μ-loop
 loop-again c = let l = c .before .before .before .before .before .loop in (search needs, c .before .before .walk-row .ensures _ (l .inv .1))
 
 same-length : tie.Need-same-length Inv-loop μ-loop
-same-length c = c .before .loop .inv .1 .size
+same-length c = c .before .loop .inv .1 .1 .size
 
 returns : tie.Need-returns Inv-loop μ-loop
 returns c =
     let s = c .before .before .before in
-    rows-all (s .args .screen) (s .pre .0 .0) (s .args .edges) (s .args .rows) (s .pre .0 .3) (search needs) (c .before .loop .inv .1)
+    (rows-all (s .args .screen) (s .pre .0 .0) (s .args .edges) (s .args .rows) (s .pre .0 .3) (search needs) (c .before .loop .inv .1 .0), c .before .loop .inv .1 .1)
 
 pub walk-rows-spec : {M : Type 1} → statement M
 walk-rows-spec =

@@ -1,4 +1,4 @@
--- `id_at`: of the chain that is left, the id at the place that is left is the one asked for.
+-- `entry_at`: of the chain that is left, the id at the place that is left is the one asked for.
 use mathlib.Core.Path.{_≡_, _∙_}
 use Prim.Native.Nat.{ℕ, _<_}
 use native.Mathlib.Omega.{arith}
@@ -11,8 +11,8 @@ use Rattle.pool.specs.Lists.{listOf}
 use Rattle.lists.specs.Reach.{Among}
 use Rattle.lists.proofs.Reaches.{tile-in}
 use Rattle.lists.proofs.ReadLoop.{Reading, reading-start, reading-block, reading-step, reading-end}
-use Rattle.lists.proofs.id_at.Statement.{statement}
-use Rattle.lists.proofs.id_at.Tie as tie
+use Rattle.lists.proofs.entry_at.Statement.{statement}
+use Rattle.lists.proofs.entry_at.Tie as tie
 
 abbrev Inv-loop : tie.InvT-loop
 Inv-loop pool layout tiles place link₀ left₀ link left =
@@ -67,8 +67,8 @@ returns c =
     let G = c .before .before .before .loop .inv (s .args .tile .0) (s .pre .0) (c .before .before .before .before .before .tile-word .ensures) (s .pre .1) in
     c .block-word2 .ensures ∙ reading-end G (omega (arith, c .before .if1 .left))
 
-pub id-at-spec : {M : Type 1} → statement M
-id-at-spec =
+pub entry-at-spec : {M : Type 1} → statement M
+entry-at-spec =
     tie.close
     (tie.spec
     Inv-loop

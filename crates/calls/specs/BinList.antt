@@ -7,7 +7,7 @@ use lib.IntN.{ℤ, pos, negsuc}
 use lib.ListN.{length, getD}
 use Rattle.shape.specs.declared.Shape.{Shape}
 use Rattle.shapes.specs.Shapes.{RightList, countOf, wordsAt, shapeAt}
-use Rattle.pool.specs.Words.{edition, layoutOf}
+use Rattle.pool.specs.Words.{idLimit, layoutOf}
 use Rattle.pool.specs.Sound.{Sound}
 use Rattle.calls.specs.declared.Binned.{Binned}
 use Rattle.calls.specs.Tables.{BinSays}
@@ -17,7 +17,7 @@ use Rattle.calls.specs.Tables.{BinSays}
 -- the id that a word says; one below 0 says none, and counts as the first number past the ids, with which a bin is refused with 5
 abbrev pub idFrom : ℤ → ℕ
 idFrom (pos n) = n
-idFrom (negsuc n) = edition .limit
+idFrom (negsuc n) = idLimit
 
 abbrev pub idAt : List ℤ → (place : ℕ) → ℕ
 idAt ws place = idFrom (wordsAt 8 ws place 7)

@@ -13,13 +13,14 @@ use shapes::Checked;
 use snap::PixelShape;
 use snap::Snapped;
 use snap::SnappedShape;
+use touch::Cover;
 ghost use mathlib.Core.Path.{_≡_};
-ghost use Rattle.pool.specs.Words.{edition, second, layoutOf};
+ghost use Rattle.pool.specs.Words.{edition, idLimit, second, layoutOf};
 ghost use Rattle.pool.specs.Sound.{Sound};
 ghost use Rattle.pool.specs.Opening.{OpenSays};
 ghost use Rattle.shape.specs.Shape.{InRange};
 ghost use Rattle.audit.specs.Answer.{HeaderOf};
-ghost use Rattle.calls.specs.Tables.{AuditSays, refusedBin, PlaceSays, CauseSays, BinSays, BinPixelsSays, ReadSays, HighWaterSays, ReleaseSays};
+ghost use Rattle.calls.specs.Tables.{AuditSays, refusedBin, PlaceSays, CauseSays, BinSays, BinPixelsSays, notFound, ReadSays, HighWaterSays, ReleaseSays};
 ghost use Prim.Native.Nat.{_≤_, _<_};
 ghost use lib.ListN.{length};
 ghost use Rattle.shapes.specs.Shapes.{RightList, countOf};
@@ -44,10 +45,11 @@ pub struct Released {
     pub blocks: u32,
 }
 
-// What a read answers: its number, and the id.
+// What a read answers: its number, the id, and whether the shape covers the tile wholly.
 pub struct Found {
     pub number: u32,
     pub id: u32,
+    pub whole: bool,
 }
 
 // What a question about a tile's mark answers: its number, and the most entries that the tile had since the opening.
@@ -56,10 +58,10 @@ pub struct HighWater {
     pub entries: u32,
 }
 
-// What a question about touching answers: its number, and whether the shape touches the tile.
+// What a question about a shape and a tile answers: its number, and how the shape covers the tile.
 pub struct Answered {
     pub number: u32,
-    pub touches: bool,
+    pub cover: Cover,
 }
 
 // What the question for a coordinate's unit answers: its number, and the unit.
@@ -110,10 +112,10 @@ fn refused_bin(number: u32) -> Binned
     }
 }
 
-// Appends the id to the list of each tile that the shape touches, in rising number, where there are as many free blocks as that needs: 0, or 8.
-// Nothing is written before the blocks are counted. `touched` is lent for the tiles.
+// Appends the id to the list of each tile that the shape touches, flagged where it covers the tile wholly, in rising number, where there are as many free
+// blocks as that needs: 0, or 8. Nothing is written before the blocks are counted. `touched` is lent for the tiles.
 fn place(pool: &mut [u32], header: Header, shape: Shape, id: u32, touched: &mut [u32]) -> Binned
-    requires { ⌜ (Sound (layoutOf (now pool)) (now pool)) × (HeaderOf (layoutOf (now pool)) (now pool) header) × (InRange shape) × (id < edition .limit) × (4096 ≤ length (now touched)) ⌝ }
+    requires { ⌜ (Sound (layoutOf (now pool)) (now pool)) × (HeaderOf (layoutOf (now pool)) (now pool) header) × (InRange shape) × (id < idLimit) × (4096 ≤ length (now touched)) ⌝ }
     ensures { λ r. ⌜ PlaceSays (now (pool .entry)) shape id r (now (pool .exit)) ⌝ }
 {
     let count = walk::touched_tiles(header.screen, shape, touched);
@@ -241,23 +243,38 @@ pub fn bin_list(pool: &mut [u32], list: &[i32], answers: &mut [u8]) -> u32
     0
 }
 
-// Reads the id at a place of a tile's list, places counted from 0: 0 and the id, or 4, 9, 10 in that order.
+// A refused read.
+fn not_found(number: u32) -> Found
+    ensures { λ r. ⌜ r ≡ notFound number ⌝ }
+{
+    Found {
+        number,
+        id: 0,
+        whole: false,
+    }
+}
+
+// Reads the id at a place of a tile's list, places counted from 0: 0, the id and whether the tile is wholly covered, or 4, 9, 10 in that order.
 pub fn read(pool: &[u32], tile: Tile, place: u32) -> Found
     ensures { λ r. ⌜ ReadSays (now (pool .entry)) (tile .0) place r ⌝ }
 {
     let audited = audit::audit(pool);
     let Audited::Sound(header) = audited else {
-        return Found { number: 4, id: 0 };
+        return not_found(4);
     };
     if header.tiles <= tile.0 {
-        return Found { number: 9, id: 0 };
+        return not_found(9);
     }
     let tiles = wide(header.tiles);
     if lists::entries(pool, header.layout, tiles, tile) <= place {
-        return Found { number: 10, id: 0 };
+        return not_found(10);
     }
-    let id = lists::id_at(pool, header.layout, tiles, tile, place);
-    Found { number: 0, id }
+    let entry = lists::entry_at(pool, header.layout, tiles, tile, place);
+    Found {
+        number: 0,
+        id: numbers::plain(entry),
+        whole: numbers::is_flagged(entry),
+    }
 }
 
 // The most entries that a tile's list had since the opening: 0 and that, or 4, 9 in that order.
@@ -333,17 +350,17 @@ fn not_asked(asked: Question) -> Answered
     match asked {
         Question::Asked(_) => Answered {
             number: 0,
-            touches: false,
+            cover: Cover::Apart,
         },
         Question::Refused(number) => Answered {
             number,
-            touches: false,
+            cover: Cover::Apart,
         },
     }
 }
 
-// Whether the tile meets the bounding box of the shape: 0 and the answer, or 1, 9, 7 in that order.
-pub fn box_touches(screen: Screen, tile: Tile, shape: Shape) -> Answered
+// Whether the tile meets the bounding box of the shape: 0 and apart or partly, or 1, 9, 7 in that order.
+pub fn box_cover(screen: Screen, tile: Tile, shape: Shape) -> Answered
     ensures { λ r. ⌜ BoxSays screen (tile .0) shape r ⌝ }
 {
     let asked = ask(screen, tile, shape);
@@ -352,12 +369,12 @@ pub fn box_touches(screen: Screen, tile: Tile, shape: Shape) -> Answered
     };
     Answered {
         number: 0,
-        touches: touch::box_touches(shape, rectangle),
+        cover: touch::box_cover(shape, rectangle),
     }
 }
 
-// Whether the shape touches the tile: 0 and the answer, or 1, 9, 7 in that order.
-pub fn corner_touches(screen: Screen, tile: Tile, shape: Shape) -> Answered
+// How the shape covers the tile: 0 and apart, partly or wholly, or 1, 9, 7 in that order.
+pub fn corner_cover(screen: Screen, tile: Tile, shape: Shape) -> Answered
     ensures { λ r. ⌜ CornerSays screen (tile .0) shape r ⌝ }
 {
     let asked = ask(screen, tile, shape);
@@ -366,7 +383,7 @@ pub fn corner_touches(screen: Screen, tile: Tile, shape: Shape) -> Answered
     };
     Answered {
         number: 0,
-        touches: touch::corner_touches(shape, rectangle),
+        cover: touch::corner_cover(shape, rectangle),
     }
 }
 

@@ -1,13 +1,15 @@
 -- The tiles of a shape by box and by touching, computed; and that the walk's list is as long.
-use mathlib.Core.Path.{refl, sym, subst}
+use mathlib.Core.Path.{refl, sym, subst, _∙_}
 use mathlib.Core.Bool.{Bool}
 use mathlib.Core.List.{List}
 use Prim.Native.Nat.{ℕ, _≤_, _<_}
 use native.Mathlib.Omega.{arith}
 use lib.ListN.{length, getD, take}
 use lib.Seq.{length-take-le}
+use Rattle.numbers.specs.Flag.{plains}
 use Rattle.numbers.specs.Says.{Says}
 use Rattle.numbers.specs.Sum.{sumTo, one}
+use Rattle.numbers.proofs.Flag.{length-plains}
 use Rattle.numbers.proofs.Says.{says-true}
 use Rattle.screen.specs.declared.Screen.{Screen}
 use Rattle.screen.specs.Screen.{Allowed, tiles}
@@ -72,7 +74,7 @@ module _ (d : Screen) (shape : Shape) where
       let few = w .few in
       let most = a .tiles≤ in
       let size = w .size in
-      subst (TilesByTouching d shape) (length-take-le n new (omega arith)) (list-counts a (take n new) (w .touched))
+      subst (TilesByTouching d shape) (length-plains (take n new) ∙ length-take-le n new (omega arith)) (list-counts a (plains (take n new)) (w .touched))
 
 -- no more tiles are touched than the box meets
 pub touched≤box : (d : Screen) (shape : Shape) {b t : ℕ} → TilesByBox d shape b → TilesByTouching d shape t → t ≤ b

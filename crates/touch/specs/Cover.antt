@@ -11,6 +11,7 @@ use Rattle.shape.specs.declared.Shape.{Shape}
 use Rattle.shape.specs.Shape.{vertices}
 use Rattle.touch.specs.declared.Cover as answer
 use Rattle.touch.specs.Touches.{total, weighted, Touches}
+use Rattle.touch.specs.Corner.{Box}
 
 -- whole weights, one for each vertex and not all zero, whose weighted mean is the point (x, y)
 pub record MeanAt (ws : List ℕ) (vs : List Vertex) (x y : ℤ) : Type 0 where
@@ -36,6 +37,12 @@ abbrev pub CoverSays : answer.Cover → Shape → Rectangle → Type 0
 CoverSays answer.the-variants.Apart shape q = Touches shape q → ⊥
 CoverSays answer.the-variants.Partly shape q = Touches shape q × (Wholly shape q → ⊥)
 CoverSays answer.the-variants.Wholly shape q = Wholly shape q
+
+-- what each answer says of a shape's bounding box and a rectangle; it never says wholly
+abbrev pub BoxCoverSays : answer.Cover → Shape → Rectangle → Type 0
+BoxCoverSays answer.the-variants.Apart shape q = Box shape q → ⊥
+BoxCoverSays answer.the-variants.Partly shape q = Box shape q
+BoxCoverSays answer.the-variants.Wholly shape q = ⊥
 
 -- whether an answer is not apart, and whether it is wholly
 abbrev pub isTouched : answer.Cover → Bool

@@ -6,7 +6,7 @@ ghost use Rattle.screen.specs.Rectangle.{Proper, HasArea};
 ghost use Rattle.shape.specs.Shape.{InRange, Placed};
 ghost use Rattle.touch.specs.Corner.{three, lesser, greater, bounds, Overlap, Box};
 ghost use Rattle.touch.specs.Edges.{AllPlaced, edgeOf, edgesOf, rowEdge, rowEdges, Within, EdgeRange, EdgesRange, RowEdgeRange, RowEdgesRange};
-ghost use Rattle.touch.specs.Cover.{CoverSays, isTouched, isWhole};
+ghost use Rattle.touch.specs.Cover.{CoverSays, BoxCoverSays, isTouched, isWhole};
 ghost use Rattle.touch.specs.Inner.{cornersAt, Outer, Inner, CoverAt};
 use screen::Rectangle;
 use shape::Shape;
@@ -123,10 +123,17 @@ fn overlap(around: Bounds, rectangle: Rectangle) -> bool
 }
 
 // Whether the rectangle meets the shape's bounding box.
-pub fn box_touches(shape: Shape, rectangle: Rectangle) -> bool
+fn box_touches(shape: Shape, rectangle: Rectangle) -> bool
     ensures { λ r. ⌜ Says r (Box shape rectangle) ⌝ }
 {
     overlap(bounds_of(three_of(shape)), rectangle)
+}
+
+// What the bounding box says of the rectangle: partly where it meets it, and else apart.
+pub fn box_cover(shape: Shape, rectangle: Rectangle) -> Cover
+    ensures { λ r. ⌜ BoxCoverSays r shape rectangle ⌝ }
+{
+    if box_touches(shape, rectangle) { Cover::Partly } else { Cover::Apart }
 }
 
 // The edge from a to b, with the edge value of c.
@@ -265,7 +272,7 @@ pub fn cover_at(edges: RowEdges, left: i64, right: i64) -> Cover
 }
 
 // How the shape covers the rectangle.
-pub fn cover_of(shape: Shape, rectangle: Rectangle) -> Cover
+pub fn corner_cover(shape: Shape, rectangle: Rectangle) -> Cover
     requires { ⌜ (InRange shape) × (Proper rectangle) × (HasArea rectangle) ⌝ }
     ensures { λ r. ⌜ CoverSays r shape rectangle ⌝ }
 {

@@ -1,4 +1,4 @@
--- `touch::cover_of` meets its contract. Where the box is met, the edges in the row of the rectangle decide; where not, nothing touches.
+-- `touch::corner_cover` meets its contract. Where the box is met, the edges in the row of the rectangle decide; where not, nothing touches.
 use mathlib.Core.Path.{sym, subst}
 use mir.Syntax.{w64}
 use Rattle.numbers.proofs.Is.{kept-is}
@@ -8,8 +8,8 @@ use Rattle.touch.proofs.Sizes.{three-placed, edges-range, row-edges-ran
 use Rattle.touch.proofs.Theorem.{touching-meets-box}
 use Rattle.touch.proofs.Covering.{cover-at-says}
 use borrow.Author.Needs.{needs}
-use Rattle.touch.proofs.cover_of.Statement.{statement}
-use Rattle.touch.proofs.cover_of.Tie as tie
+use Rattle.touch.proofs.corner_cover.Statement.{statement}
+use Rattle.touch.proofs.corner_cover.Tie as tie
 
 box-touches-requires : tie.Need-box-touches-requires
 box-touches-requires c κs = search needs
@@ -42,8 +42,8 @@ returns c =
 returns-2 : tie.Need-returns-2
 returns-2 c = λ h. c .before .box-touches .ensures .no (c .if1 .left) (touching-meets-box h)
 
-pub cover-of-spec : {M : Type 1} → statement M
-cover-of-spec =
+pub corner-cover-spec : {M : Type 1} → statement M
+corner-cover-spec =
     tie.close
     (tie.spec
     box-touches-requires

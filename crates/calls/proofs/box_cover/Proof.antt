@@ -1,9 +1,9 @@
--- `calls::box_touches` meets its contract: a refusal is handed on, and the answer is that of the test.
+-- `calls::box_cover` meets its contract: a refusal is handed on, and the answer is that of the test.
 use mathlib.Core.Path.{refl, ap, _∙_}
 use Rattle.calls.specs.Questions.{notAsked, refused, done}
 use borrow.Author.Needs.{needs}
-use Rattle.calls.proofs.box_touches.Statement.{statement}
-use Rattle.calls.proofs.box_touches.Tie as tie
+use Rattle.calls.proofs.box_cover.Statement.{statement}
+use Rattle.calls.proofs.box_cover.Tie as tie
 
 ask-requires : tie.Need-ask-requires
 ask-requires c κs = search needs
@@ -22,16 +22,16 @@ returns c =
     let told = c .before .enum-told .given .1 in
     refused _ (rw told at (c .before .before .before .ask .ensures)) (c .not-asked .ensures ∙ ap notAsked told)
 
-box-touches-requires : tie.Need-box-touches-requires
-box-touches-requires c κs = search needs
+box-cover-requires : tie.Need-box-cover-requires
+box-cover-requires c κs = search needs
 
 returns-2 : tie.Need-returns-2
 returns-2 c =
     let told = rw (c .before .before .asked .given .1) at (c .before .before .before .before .ask .ensures) in
-    done (told .0) _ (rw (told .1) at (c .box-touches .ensures)) refl
+    done (told .0) _ (rw (told .1) at (c .box-cover .ensures)) refl
 
-pub box-touches-spec : {M : Type 1} → statement M
-box-touches-spec =
+pub box-cover-spec : {M : Type 1} → statement M
+box-cover-spec =
     tie.close
     (tie.spec
     ask-requires
@@ -39,5 +39,5 @@ box-touches-spec =
     enum-told
     not-asked-requires
     returns
-    box-touches-requires
+    box-cover-requires
     returns-2)

@@ -1,10 +1,10 @@
--- `calls::corner_touches` meets its contract: a refusal is handed on, and the answer is that of the test.
+-- `calls::corner_cover` meets its contract: a refusal is handed on, and the answer is that of the test.
 use mathlib.Core.Path.{refl, ap, _∙_}
-use Rattle.screen.proofs.Laws.{rectangle-proper, column<, row<}
+use Rattle.screen.proofs.Laws.{rectangle-proper, rectangle-has-area, column<, row<}
 use Rattle.calls.specs.Questions.{notAsked, refused, done}
 use borrow.Author.Needs.{needs}
-use Rattle.calls.proofs.corner_touches.Statement.{statement}
-use Rattle.calls.proofs.corner_touches.Tie as tie
+use Rattle.calls.proofs.corner_cover.Statement.{statement}
+use Rattle.calls.proofs.corner_cover.Tie as tie
 
 ask-requires : tie.Need-ask-requires
 ask-requires c κs = search needs
@@ -23,20 +23,22 @@ returns c =
     let told = c .before .enum-told .given .1 in
     refused _ (rw told at (c .before .before .before .ask .ensures)) (c .not-asked .ensures ∙ ap notAsked told)
 
-corner-touches-requires : tie.Need-corner-touches-requires
-corner-touches-requires c κs =
+corner-cover-requires : tie.Need-corner-cover-requires
+corner-cover-requires c κs =
     let told = rw (c .before .asked .given .1) at (c .before .before .before .ask .ensures) in
     let o = told .0 in
     let s = c .before .before .before .before .args in
-    (o .in-range, rw (told .1) (rectangle-proper (s .screen) (o .screen) (column< (s .screen) (o .screen) (s .tile .0)) (row< (s .screen) (o .screen) (s .tile .0) (o .tile))))
+    let column = column< (s .screen) (o .screen) (s .tile .0) in
+    let row = row< (s .screen) (o .screen) (s .tile .0) (o .tile) in
+    (o .in-range, rw (told .1) (rectangle-proper (s .screen) (o .screen) column row), rw (told .1) (rectangle-has-area (s .screen) (o .screen) column row))
 
 returns-2 : tie.Need-returns-2
 returns-2 c =
     let told = rw (c .before .before .asked .given .1) at (c .before .before .before .before .ask .ensures) in
-    done (told .0) _ (rw (told .1) at (c .corner-touches .ensures)) refl
+    done (told .0) _ (rw (told .1) at (c .corner-cover .ensures)) refl
 
-pub corner-touches-spec : {M : Type 1} → statement M
-corner-touches-spec =
+pub corner-cover-spec : {M : Type 1} → statement M
+corner-cover-spec =
     tie.close
     (tie.spec
     ask-requires
@@ -44,5 +46,5 @@ corner-touches-spec =
     enum-told
     not-asked-requires
     returns
-    corner-touches-requires
+    corner-cover-requires
     returns-2)

@@ -1,4 +1,4 @@
--- A chain of a sound pool that is followed, block by block, while its ids are copied one block after the other.
+-- A chain of a sound pool that is followed, block by block, while its entries are copied one block after the other.
 use mathlib.Core.Path.{_≡_, refl, sym, ap, _∙_, subst}
 use mathlib.Core.Logic.{⊎-elim}
 use mathlib.Core.List.{List, [], _∷_}
@@ -27,7 +27,7 @@ length-part from count p h = length-take-le count (drop from p) (omega (arith, l
 pub getD-part : (from count : ℕ) (p : List ℕ) (j : ℕ) → j < count → getD (take count (drop from p)) j 0 ≡ getD p (from + j) 0
 getD-part from count p j h = getD-take count (drop from p) j 0 h ∙ getD-drop from p j 0
 
--- a list ends with its last block of ids, full or not
+-- a list ends with its last block of entries, full or not
 drop-share : (ids done k : ℕ) (list : List ℕ) → k ≡ min ids (length list - done) → drop (done + ids) list ≡ drop (done + k) list
 drop-share ids done k list e =
     ⊎-elim
@@ -40,7 +40,7 @@ drop-share ids done k list e =
 
 -- ---- following
 
--- `done` ids of the list have been copied; the link names the blocks, each one of N, that hold the others. word b k is word k of block b.
+-- `done` entries of the list have been copied; the link names the blocks, each one of N, that hold the others. word b k is word k of block b.
 pub record Following (ids poison : ℕ) (word : ℕ → ℕ → ℕ) (N : ℕ) (list copy₀ copy : List ℕ) (link done : ℕ) : Type 0 where
   pub blocks : List ℕ
   pub named : link ≡ linkTo blocks
@@ -52,7 +52,7 @@ pub record Following (ids poison : ℕ) (word : ℕ → ℕ → ℕ) (N : ℕ) (
 
 module _ {ids poison : ℕ} {word : ℕ → ℕ → ℕ} {N : ℕ} {list copy₀ copy : List ℕ} {link done : ℕ}
     (F : Following ids poison word N list copy₀ copy link done) (more : done < length list) where
-  -- with ids to go, the link names a block
+  -- with entries to go, the link names a block
   pub follow-block : (0 < link) × (link - 1 < N)
   follow-block = go (F .blocks) (F .named) (F .enough) (F .within)
     where
@@ -60,7 +60,7 @@ module _ {ids poison : ℕ} {word : ℕ → ℕ → ℕ} {N : ℕ} {list copy₀
       go [] e n w = absurd (omega arith)
       go (b ∷ bs) e n w = (omega arith, omega (arith, w b (times-head b bs)))
 
-  -- its ids are copied, and its link is next
+  -- its entries are copied, and its link is next
   pub follow-step : (k : ℕ) (part copy′ : List ℕ) → k ≡ min ids (length list - done) → length part ≡ k
       → ((j : ℕ) → j < k → getD part j 0 ≡ word (link - 1) j) → copy′ ≡ written copy done part
       → Following ids poison word N list copy₀ copy′ (word (link - 1) ids) (done + k)

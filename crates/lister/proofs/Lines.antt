@@ -1,35 +1,49 @@
 -- The lines of a listing: one more, and how long they are at most.
 use mathlib.Core.Path.{_≡_, refl, ap}
+use mathlib.Core.Bool.{Bool, true, false, cond}
 use mathlib.Core.Logic.{⊎-elim}
-use mathlib.Core.List.{List, [], _∷_, _++_}
-use Prim.Native.Nat.{ℕ, zero, suc, _+_, _*_, _^_, _≤_, _<_, suc-le-suc}
+use mathlib.Core.List.{List, [], _∷_, _++_, append-nil}
+use Prim.Native.Nat.{ℕ, zero, suc, _+_, _*_, _^_, _≤_, _<_}
 use native.Mathlib.Nat.{not-suc-le-zero, mul-le-mul-left, mul-le-mul-right}
 use native.Mathlib.Numerals.{add-one}
 use native.Mathlib.Omega.{arith}
 use lib.ListN.{length, getD, drop, length-append}
 use lib.Pow.{pow-mono}
 use lib.Seq.{drop-cons}
+use Rattle.numbers.specs.Flag.{plain, isFlagged}
 use Rattle.numbers.proofs.Ceil.{lt-or-ge}
-use Rattle.pool.specs.Words.{edition, layoutOf, room, start, headerWord}
+use Rattle.pool.specs.Words.{layoutOf, room, start, headerWord}
 use Rattle.pool.specs.State.{empty, tileOf}
 use Rattle.pool.specs.Sound.{Sound, tilesOf, blocksOf}
 use Rattle.pool.specs.Lists.{listOf}
-use Rattle.pool.proofs.Editions.{layout-known, layout-fair, known-limit, known-sized}
+use Rattle.pool.proofs.Editions.{layout-known, layout-fair, known-sized}
 use Rattle.pool.proofs.Lists.{listOf-tile, blocks-enough}
 use Rattle.pool.proofs.Total.{blocksInTiles, blocks-total, free≤, entries≤}
 use Rattle.lister.specs.Text.{field}
-use Rattle.lister.specs.Listing.{space, screen-name, side-name, blocks-name, free-name, tile-name, screenLine, idsText, lineOf, tileLine, tileLines, listing}
+use Rattle.lister.specs.Listing.{space, star, screen-name, side-name, blocks-name, free-name, tile-name, screenLine, entryText, entriesText, lineOf, tileLine, tileLines, listing}
 use Rattle.lister.proofs.Numerals.{field≤}
 
--- ---- one more id, and one more tile
+-- ---- one entry, by its flag
 
-pub idsText-next : (ids : List ℕ) (k : ℕ) → k < length ids → idsText (drop k ids) ≡ field space (getD ids k 0) ++ idsText (drop (k + 1) ids)
-idsText-next ids k h = rw (add-one k) (ap idsText (drop-cons ids k 0 h))
+module _ (entry : ℕ) where
+  pub entryText-flagged : isFlagged entry ≡ true → entryText entry ≡ field space (plain entry) ++ star
+  unfolding entryText
+  entryText-flagged e = rw e
+
+  pub entryText-plain : isFlagged entry ≡ false → entryText entry ≡ field space (plain entry)
+  unfolding entryText
+  entryText-plain e = rw e (append-nil (field space (plain entry)))
+
+-- ---- one more entry, and one more tile
+
+pub entriesText-next : (entries : List ℕ) (k : ℕ) → k < length entries
+    → entriesText (drop k entries) ≡ entryText (getD entries k 0) ++ entriesText (drop (k + 1) entries)
+entriesText-next entries k h = rw (add-one k) (ap entriesText (drop-cons entries k 0 h))
 
 -- a tile with entries has its line
 pub tileLine-some : (t : ℕ) (list : List ℕ) → 0 < length list → tileLine t list ≡ lineOf t list
 tileLine-some t [] h = absurd (not-suc-le-zero h)
-tileLine-some t (id ∷ ids) h = refl
+tileLine-some t (entry ∷ entries) h = refl
 
 pub tileLines-next : (p : List ℕ) (t : ℕ) → tileLines p (t + 1) ≡ tileLines p t ++ tileLine t (listOf (layoutOf p) (tilesOf p) p t)
 tileLines-next p t = rw (add-one t)
@@ -42,7 +56,7 @@ tileLines-grow p t (suc n) h =
     (λ (l : n ≤ t). let e : t ≡ n = omega arith in rw e (omega arith))
     (lt-or-ge t n)
 
--- ---- how long they are at most: 47 bytes for the screen, and for each block 9 for each of its ids and 11
+-- ---- how long they are at most: 47 bytes for the screen, 11 for each tile and 10 for each entry
 
 screenLine≤ : (width height side blocks free : ℕ) → width ≤ 4096 → height ≤ 4096 → side ≤ 64 → blocks ≤ 2048 → free ≤ 2048
     → length (screenLine width height side blocks free) ≤ 47
@@ -55,36 +69,38 @@ screenLine≤ width height side blocks free hw hh hs hb hf =
     let f : length (field free-name free) ≤ 10 = field≤ free-name 3 free (omega arith) in
     simp length-append (omega arith)
 
-idsText≤ : (ids : List ℕ) → ((i : ℕ) → i < length ids → getD ids i 0 < edition .limit) → length (idsText ids) ≤ 9 * length ids
-idsText≤ [] h = omega arith
-idsText≤ (id ∷ ids) h =
-    let a : length (field space id) ≤ 9 = field≤ space 7 id (omega (arith, h 0 (omega arith))) in
-    let b = idsText≤ ids (λ i hi. h (suc i) (suc-le-suc hi)) in
-    omega (arith, length-append (field space id) (idsText ids))
+entryText≤ : (entry : ℕ) → length (entryText entry) ≤ 10
+unfolding entryText
+entryText≤ entry =
+    let id : length (field space (plain entry)) ≤ 9 = field≤ space 7 (plain entry) (omega arith) in
+    omega (arith, length-append (field space (plain entry)) (cond (isFlagged entry) star []), flag≤ (isFlagged entry))
+  where
+    flag≤ : (b : Bool) → length (cond b star []) ≤ 1
+    flag≤ true = omega arith
+    flag≤ false = omega arith
 
-tileLine≤ : (t size : ℕ) (list : List ℕ) (blocks : ℕ) → t < 4096 → length list ≤ size * blocks → ((i : ℕ) → i < length list → getD list i 0 < edition .limit)
-    → length (tileLine t list) ≤ (9 * size + 11) * blocks
+entriesText≤ : (entries : List ℕ) → length (entriesText entries) ≤ 10 * length entries
+entriesText≤ [] = omega arith
+entriesText≤ (entry ∷ entries) = omega (arith, entryText≤ entry, entriesText≤ entries, length-append (entryText entry) (entriesText entries))
+
+tileLine≤ : (t : ℕ) (list : List ℕ) → t < 4096 → length (tileLine t list) ≤ 10 * length list + 11
 unfolding lineOf
-tileLine≤ t size [] blocks ht hb h = omega arith
-tileLine≤ t size (id ∷ ids) zero ht hb h = absurd (omega arith)
-tileLine≤ t size (id ∷ ids) (suc blocks) ht hb h =
+tileLine≤ t [] ht = omega arith
+tileLine≤ t (entry ∷ entries) ht =
     let a : length (field tile-name t) ≤ 9 = field≤ tile-name 3 t (omega arith) in
-    let b = idsText≤ (id ∷ ids) h in
-    simp length-append (omega (arith, length-append (field space id) (idsText ids)))
+    let b = entriesText≤ (entry ∷ entries) in
+    simp length-append (omega (arith, length-append (entryText entry) (entriesText entries)))
 
 module _ (p : List ℕ) (S : Sound (layoutOf p) p) where
-  abbrev size : ℕ
-  size = layoutOf p .ids
+  -- the entries of so many blocks, at most
+  abbrev entries : (blocks : ℕ) → ℕ
+  entries blocks = layoutOf p .ids * blocks
 
-  -- the bytes of so many blocks, at most
-  abbrev bytes : (blocks : ℕ) → ℕ
-  bytes blocks = (9 * size + 11) * blocks
-
-  -- the lines of the first tiles, with room for the chains of the others
-  tileLines≤ : (t : ℕ) → t ≤ tilesOf p → length (tileLines p t) + bytes (blocksInTiles (drop t (S .state .tiles))) ≤ bytes (blocksOf p)
+  -- the lines of the first tiles, with room for the entries of the others
+  tileLines≤ : (t : ℕ) → t ≤ tilesOf p → length (tileLines p t) + 10 * entries (blocksInTiles (drop t (S .state .tiles))) ≤ 10 * entries (blocksOf p) + 11 * t
   tileLines≤ zero h =
       let few : blocksInTiles (S .state .tiles) ≤ blocksOf p = omega (arith, blocks-total (S .shows)) in
-      omega (arith, mul-le-mul-left (9 * size + 11) few)
+      omega (arith, mul-le-mul-left (layoutOf p .ids) few)
   tileLines≤ (suc t) h =
       let k = S .shows .tile t h in
       let x = tileOf (S .state) t in
@@ -92,12 +108,12 @@ module _ (p : List ℕ) (S : Sound (layoutOf p) p) where
       let ht : t < length (S .state .tiles) = omega (arith, S .shows .tiled) in
       let rest = drop (suc t) (S .state .tiles) in
       let more : blocksInTiles (drop t (S .state .tiles)) ≡ length (x .blocks) + blocksInTiles rest = ap blocksInTiles (drop-cons (S .state .tiles) t empty ht) in
-      let in-range : (i : ℕ) → i < length (x .list) → getD (x .list) i 0 < edition .limit = (λ i hi. omega (arith, k .in-range i hi, known-limit (layout-known p))) in
-      let line = tileLine≤ t size (x .list) (length (x .blocks)) (omega (arith, S .opened .screen .tiles≤)) (blocks-enough (layout-fair p) k) in-range in
-      rw (listOf-tile (layout-fair p) k) (omega (arith, ap bytes more, length-append (tileLines p t) (tileLine t (x .list))))
+      let line = tileLine≤ t (x .list) (omega (arith, S .opened .screen .tiles≤)) in
+      rw (listOf-tile (layout-fair p) k)
+      (omega (arith, ap entries more, blocks-enough (layout-fair p) k, length-append (tileLines p t) (tileLine t (x .list))))
 
-  -- the longest listing of a pool of 16,384 words: a block has at least 32 of them
-  pub listing≤ : length p ≤ 16384 → length (listing p) ≤ 150000
+  -- the longest listing of a pool of 16,384 words, of which at most 63 in 64 are entries
+  pub listing≤ : length p ≤ 16384 → length (listing p) ≤ 162000
   unfolding listing room start
   listing≤ h =
       let a = S .opened .screen in
@@ -106,7 +122,8 @@ module _ (p : List ℕ) (S : Sound (layoutOf p) p) where
       (omega (arith, S .shows .count, free≤ (S .shows), S .opened .blocks≤)) in
       let lines = tileLines≤ (tilesOf p) (omega arith) in
       let long = S .opened .long in
-      let wide : 31 * blocksOf p ≤ size * blocksOf p = mul-le-mul-right (blocksOf p) (known-sized (layout-known p) .ids≥) in
+      let tiles : 4 * tilesOf p ≤ layoutOf p .tile * tilesOf p = mul-le-mul-right (tilesOf p) (layout-fair p .tile>) in
+      let full : entries (blocksOf p) ≤ 63 * blocksOf p = mul-le-mul-right (blocksOf p) (known-sized (layout-known p) .ids≤) in
       omega (arith, length-append (screenLine (headerWord p 0) (headerWord p 1) (2 ^ headerWord p 2) (blocksOf p) (headerWord p 4)) (tileLines p (tilesOf p)))
 
   -- a list is no longer than the pool

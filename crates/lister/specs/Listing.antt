@@ -1,12 +1,14 @@
 -- The listing of a sound pool, as text.
+use mathlib.Core.Bool.{cond}
 use mathlib.Core.List.{List, [], _∷_, _++_}
 use Prim.Native.Nat.{ℕ, zero, suc, _^_}
+use Rattle.numbers.specs.Flag.{plain, isFlagged}
 use Rattle.pool.specs.Words.{layoutOf, headerWord}
 use Rattle.pool.specs.Sound.{tilesOf, blocksOf}
 use Rattle.pool.specs.Lists.{listOf}
 use Rattle.lister.specs.Text.{field}
 
--- "\n", " ", ":"
+-- "\n", " ", ":", "*"
 abbrev pub newline : List ℕ
 newline = 10 ∷ []
 
@@ -15,6 +17,9 @@ space = 32 ∷ []
 
 abbrev pub colon : List ℕ
 colon = 58 ∷ []
+
+abbrev pub star : List ℕ
+star = 42 ∷ []
 
 -- "screen ", " tile ", " blocks ", " free ", "tile "
 abbrev pub screen-name : List ℕ
@@ -37,19 +42,23 @@ unfoldable pub screenLine : (width height side blocks free : ℕ) → List ℕ
 screenLine width height side blocks free =
     field screen-name width ++ field space height ++ field side-name side ++ field blocks-name blocks ++ field free-name free ++ newline
 
--- each id after a space
-abbrev pub idsText : List ℕ → List ℕ
-idsText [] = []
-idsText (id ∷ ids) = field space id ++ idsText ids
+-- the id of an entry after a space, and a star behind it where its flag says that the tile is wholly covered
+unfoldable pub entryText : (entry : ℕ) → List ℕ
+entryText entry = field space (plain entry) ++ cond (isFlagged entry) star []
 
--- tile T: id id ..
+-- each entry after a space
+abbrev pub entriesText : List ℕ → List ℕ
+entriesText [] = []
+entriesText (entry ∷ entries) = entryText entry ++ entriesText entries
+
+-- tile T: entry entry ..
 unfoldable pub lineOf : (t : ℕ) → List ℕ → List ℕ
-lineOf t ids = field tile-name t ++ colon ++ idsText ids ++ newline
+lineOf t entries = field tile-name t ++ colon ++ entriesText entries ++ newline
 
 -- the line of a tile, and nothing where its list is empty
 abbrev pub tileLine : (t : ℕ) → List ℕ → List ℕ
 tileLine t [] = []
-tileLine t (id ∷ ids) = lineOf t (id ∷ ids)
+tileLine t (entry ∷ entries) = lineOf t (entry ∷ entries)
 
 -- the lines of the first n tiles of the words p
 abbrev pub tileLines : List ℕ → (n : ℕ) → List ℕ

@@ -9,12 +9,14 @@ ghost use Rattle.pool.specs.Editions.{layoutFor, Sized};
 ghost use Rattle.pool.specs.Sound.{Sound, tilesOf};
 ghost use Rattle.pool.specs.Lists.{listOf};
 ghost use Rattle.audit.specs.Answer.{HeaderOf};
-ghost use Rattle.lister.specs.Text.{field, Puts};
-ghost use Rattle.lister.specs.Listing.{space, screenLine, idsText, lineOf, tileLine, tileLines, listing};
-use crate::ids::tile_ids;
+ghost use Rattle.lister.specs.Text.{Puts};
+ghost use Rattle.lister.specs.Listing.{screenLine, entryText, entriesText, lineOf, tileLine, tileLines, listing};
+use crate::entries::tile_entries;
 use crate::text::put_field;
 use crate::text::put_text;
 use audit::Header;
+use numbers::is_flagged;
+use numbers::plain;
 use pool::Edition;
 use screen::Screen;
 use screen::Tile;
@@ -41,67 +43,71 @@ fn put_screen(screen: Screen, blocks: u32, free: u32, out: &mut [u8], at: usize)
     put_text(b"\n", out, last)
 }
 
-// An id, after a space.
-fn put_id(id: u32, out: &mut [u8], at: usize) -> usize
-    requires { ⌜ at + length (field space id) ≤ length (now out) ⌝ }
-    ensures { λ r. ⌜ Puts (now (out .entry)) at (field space id) (now (out .exit)) r ⌝ }
+// The id of an entry after a space, and a star behind it where its flag says that the tile is wholly covered.
+fn put_entry(entry: u32, out: &mut [u8], at: usize) -> usize
+    requires { ⌜ at + length (entryText entry) ≤ length (now out) ⌝ }
+    ensures { λ r. ⌜ Puts (now (out .entry)) at (entryText entry) (now (out .exit)) r ⌝ }
 {
-    put_field(b" ", id, out, at)
+    let next = put_field(b" ", plain(entry), out, at);
+    if is_flagged(entry) {
+        return put_text(b"*", out, next);
+    }
+    next
 }
 
-// Each id after a space.
-fn put_ids(ids: &[u32], out: &mut [u8], at: usize) -> usize
-    requires { ⌜ at + length (idsText (now ids)) ≤ length (now out) ⌝ }
-    ensures { λ r. ⌜ Puts (now (out .entry)) at (idsText (now (ids .entry))) (now (out .exit)) r ⌝ }
+// Each entry after a space.
+fn put_entries(entries: &[u32], out: &mut [u8], at: usize) -> usize
+    requires { ⌜ at + length (entriesText (now entries)) ≤ length (now out) ⌝ }
+    ensures { λ r. ⌜ Puts (now (out .entry)) at (entriesText (now (entries .entry))) (now (out .exit)) r ⌝ }
 {
     let mut next = at;
     let mut k = 0;
-    while k < ids.len() {
-        next = put_id(ids[k], out, next);
+    while k < entries.len() {
+        next = put_entry(entries[k], out, next);
         k += 1;
     }
     next
 }
 
-// The line of a tile with these ids.
-fn put_line(tile: Tile, ids: &[u32], out: &mut [u8], at: usize) -> usize
-    requires { ⌜ at + length (lineOf (tile .0) (now ids)) ≤ length (now out) ⌝ }
-    ensures { λ r. ⌜ Puts (now (out .entry)) at (lineOf (tile .0) (now (ids .entry))) (now (out .exit)) r ⌝ }
+// The line of a tile with these entries.
+fn put_line(tile: Tile, entries: &[u32], out: &mut [u8], at: usize) -> usize
+    requires { ⌜ at + length (lineOf (tile .0) (now entries)) ≤ length (now out) ⌝ }
+    ensures { λ r. ⌜ Puts (now (out .entry)) at (lineOf (tile .0) (now (entries .entry))) (now (out .exit)) r ⌝ }
 {
     let named = put_field(b"tile ", tile.0, out, at);
     let parted = put_text(b":", out, named);
-    let listed = put_ids(ids, out, parted);
+    let listed = put_entries(entries, out, parted);
     put_text(b"\n", out, listed)
 }
 
-// The line of a tile of a sound pool, and nothing where its list is empty. `ids` has room for the list.
+// The line of a tile of a sound pool, and nothing where its list is empty. `list` has room for it.
 fn put_tile(
     pool: &[u32],
     layout: Edition,
     from: usize,
     tile: Tile,
-    ids: &mut [u32],
+    list: &mut [u32],
     out: &mut [u8],
     at: usize,
 ) -> usize
     requires { ⌜ (Sound (layoutFor layout) (now pool)) × Sized (layoutFor layout) ⌝ }
     requires { ⌜ (from ≡ start (layoutFor layout) (tilesOf (now pool))) × (tile .0 < tilesOf (now pool)) ⌝ }
-    requires { ⌜ length (listOf (layoutFor layout) (tilesOf (now pool)) (now pool) (tile .0)) ≤ length (now ids) ⌝ }
+    requires { ⌜ length (listOf (layoutFor layout) (tilesOf (now pool)) (now pool) (tile .0)) ≤ length (now list) ⌝ }
     requires { ⌜ at + length (tileLine (tile .0) (listOf (layoutFor layout) (tilesOf (now pool)) (now pool) (tile .0))) ≤ length (now out) ⌝ }
     ensures { λ r. ⌜ Puts (now (out .entry)) at (tileLine (tile .0) (listOf (layoutFor layout) (tilesOf (now (pool .entry))) (now (pool .entry)) (tile .0))) (now (out .exit)) r ⌝ }
 {
-    let count = tile_ids(pool, layout, from, tile, ids);
+    let count = tile_entries(pool, layout, from, tile, list);
     if count == 0 {
         return at;
     }
-    put_line(tile, &ids[..count], out, at)
+    put_line(tile, &list[..count], out, at)
 }
 
-// The lines of all tiles of a sound pool with that header. `ids` has room for every list.
-fn put_tiles(pool: &[u32], header: Header, ids: &mut [u32], out: &mut [u8], at: usize) -> usize
+// The lines of all tiles of a sound pool with that header. `list` has room for that of any tile.
+fn put_tiles(pool: &[u32], header: Header, list: &mut [u32], out: &mut [u8], at: usize) -> usize
     requires { ⌜ Sound (layoutOf (now pool)) (now pool) ⌝ }
     requires { ⌜ HeaderOf (layoutOf (now pool)) (now pool) header ⌝ }
-    requires { ⌜ length (now pool) ≤ length (now ids) ⌝ }
+    requires { ⌜ length (now pool) ≤ length (now list) ⌝ }
     requires { ⌜ at + length (tileLines (now pool) (tilesOf (now pool))) ≤ length (now out) ⌝ }
     ensures { λ r. ⌜ Puts (now (out .entry)) at (tileLines (now (pool .entry)) (tilesOf (now (pool .entry)))) (now (out .exit)) r ⌝ }
 {
@@ -109,20 +115,20 @@ fn put_tiles(pool: &[u32], header: Header, ids: &mut [u32], out: &mut [u8], at: 
     let mut next = at;
     let mut t = 0;
     while t < tiles {
-        next = put_tile(pool, header.layout, header.start, Tile(t), ids, out, next);
+        next = put_tile(pool, header.layout, header.start, Tile(t), list, out, next);
         t += 1;
     }
     next
 }
 
 // The whole listing of a sound pool with that header, at the start of the buffer.
-pub fn put_listing(pool: &[u32], header: Header, ids: &mut [u32], out: &mut [u8]) -> usize
+pub fn put_listing(pool: &[u32], header: Header, list: &mut [u32], out: &mut [u8]) -> usize
     requires { ⌜ Sound (layoutOf (now pool)) (now pool) ⌝ }
     requires { ⌜ HeaderOf (layoutOf (now pool)) (now pool) header ⌝ }
-    requires { ⌜ length (now pool) ≤ length (now ids) ⌝ }
+    requires { ⌜ length (now pool) ≤ length (now list) ⌝ }
     requires { ⌜ length (listing (now pool)) ≤ length (now out) ⌝ }
     ensures { λ r. ⌜ Puts (now (out .entry)) 0 (listing (now (pool .entry))) (now (out .exit)) r ⌝ }
 {
     let at = put_screen(header.screen, header.blocks, pool[4], out, 0);
-    put_tiles(pool, header, ids, out, at)
+    put_tiles(pool, header, list, out, at)
 }

@@ -1,6 +1,6 @@
 // Lists a pool of little-endian words, read from standard input: a line for the screen, and one for each tile with entries. `specs/Answer.antt` says what is
 // written for any bytes.
-mod ids;
+mod entries;
 mod input;
 mod listing;
 mod text;
@@ -25,24 +25,24 @@ const MOST_BYTES: usize = 65536;
 const MOST_WORDS: usize = 16384;
 
 // Room for the longest listing.
-const MOST_TEXT: usize = 150000;
+const MOST_TEXT: usize = 162000;
 
 // Puts the text for these words at the start of `out`, and answers its length.
 fn list_words(pool: &[u32], out: &mut [u8]) -> usize
-    requires { ⌜ (length (now pool) ≤ 16384) × (150000 ≤ length (now out)) ⌝ }
+    requires { ⌜ (length (now pool) ≤ 16384) × (162000 ≤ length (now out)) ⌝ }
     ensures within { λ r. ⌜ Counts r (now (out .exit)) ⌝ }
     ensures text { λ r. ⌜ WordsSay (now (pool .entry)) (take r (now (out .exit))) ⌝ }
 {
     let Audited::Sound(header) = audit::audit(pool) else {
         return put_text(b"damaged\n", out, 0);
     };
-    let mut ids = [0u32; MOST_WORDS];
-    put_listing(pool, header, &mut ids, out)
+    let mut list = [0u32; MOST_WORDS];
+    put_listing(pool, header, &mut list, out)
 }
 
 // Puts the text for these bytes at the start of `out`, and answers its length.
 fn list_bytes(bytes: &[u8], out: &mut [u8]) -> usize
-    requires { ⌜ 150000 ≤ length (now out) ⌝ }
+    requires { ⌜ 162000 ≤ length (now out) ⌝ }
     ensures within { λ r. ⌜ Counts r (now (out .exit)) ⌝ }
     ensures text { λ r. ⌜ BytesSay (now (bytes .entry)) (take r (now (out .exit))) ⌝ }
 {
@@ -59,7 +59,7 @@ fn list_bytes(bytes: &[u8], out: &mut [u8]) -> usize
 
 // Puts the text for what was read at the start of `out`, and answers its length. The buffer is longer than the longest input, so that a longer one is seen.
 fn list_input(buffer: &[u8], input: Input, out: &mut [u8]) -> usize
-    requires { ⌜ (65536 < length (now buffer)) × (Within input (now buffer)) × (150000 ≤ length (now out)) ⌝ }
+    requires { ⌜ (65536 < length (now buffer)) × (Within input (now buffer)) × (162000 ≤ length (now out)) ⌝ }
     ensures within { λ r. ⌜ Counts r (now (out .exit)) ⌝ }
     ensures text { λ r. ⌜ InputSays (now (buffer .entry)) input (take r (now (out .exit))) ⌝ }
 {

@@ -21,9 +21,9 @@ put-text-requires : tie.Need-put-text-requires
 unfolding lineOf
 put-text-requires c κs = omega (arith, simp length-append at (c .before .before .before .before .before .before .before .before .before .pre))
 
-put-ids-requires : tie.Need-put-ids-requires
+put-entries-requires : tie.Need-put-entries-requires
 unfolding lineOf
-put-ids-requires c κs =
+put-entries-requires c κs =
     let colon = c .before .before .before in
     omega (arith, simp length-append at (colon .before .before .before .before .before .before .before .before .before .before .pre))
 
@@ -33,8 +33,8 @@ slice-aggregate-put-text-2 c = search needs
 put-text-requires-2 : tie.Need-put-text-requires-2
 unfolding lineOf
 put-text-requires-2 c κs =
-    let ids = c .before .before .before .before in
-    omega (arith, simp length-append at (ids .before .before .before .before .before .before .before .before .before .before .before .before .before .before .pre))
+    let entries = c .before .before .before .before in
+    omega (arith, simp length-append at (entries .before .before .before .before .before .before .before .before .before .before .before .before .before .before .pre))
 
 same-length : tie.Need-same-length
 same-length c = search needs
@@ -43,10 +43,10 @@ returns : tie.Need-returns
 unfolding lineOf
 returns c =
     let last = c .before .before in
-    let ids = last .before .before .before .before .before in
-    let colon = ids .before .before .before .before in
+    let entries = last .before .before .before .before .before in
+    let colon = entries .before .before .before .before in
     let name = colon .before .before .before .before .before in
-    puts-then (puts-then (puts-then (name .put-field .ensures) (colon .put-text .ensures)) (ids .put-ids .ensures)) (last .put-text2 .ensures)
+    puts-then (puts-then (puts-then (name .put-field .ensures) (colon .put-text .ensures)) (entries .put-entries .ensures)) (last .put-text2 .ensures)
 
 pub put-line-spec : {M : Type 1} → statement M
 put-line-spec =
@@ -56,7 +56,7 @@ put-line-spec =
     put-field-requires
     slice-aggregate-put-text
     put-text-requires
-    put-ids-requires
+    put-entries-requires
     slice-aggregate-put-text-2
     put-text-requires-2
     same-length

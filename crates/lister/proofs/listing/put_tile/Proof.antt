@@ -1,4 +1,4 @@
--- `put_tile`: the ids that were copied are the list; with none of them there is no line.
+-- `put_tile`: the entries that were copied are the list; with none of them there is no line.
 use mathlib.Core.Path.{_≡_, sym, ap, _∙_}
 use denote.Ref.{now}
 use lib.ListN.{length, take}
@@ -13,24 +13,24 @@ use borrow.Author.Needs.{needs}
 use Rattle.lister.proofs.listing.put_tile.Statement.{statement}
 use Rattle.lister.proofs.listing.put_tile.Tie as tie
 
--- the line of a tile, where ids were copied
+-- the line of a tile, where entries were copied
 line : (c : tie.Else1) → let a = c .before .before .before .before .before .before .before .before .args in
     tileLine (a .tile .0) (listOf (layoutFor (a .layout)) (tilesOf (now (a .pool))) (now (a .pool)) (a .tile .0))
-    ≡ lineOf (a .tile .0) (take (c .before .before .before .tile-ids .result) (c .before .before .before .tile-ids .last .1 .1 .1 .1 .0))
+    ≡ lineOf (a .tile .0) (take (c .before .before .before .tile-entries .result) (c .before .before .before .tile-entries .last .1 .1 .1 .1 .0))
 line c =
     let t = c .before .before .before .before .before .before .before .before .args .tile .0 in
-    let e = c .before .before .before .tile-ids .ensures in
+    let e = c .before .before .before .tile-entries .ensures in
     tileLine-some t _ (omega (arith, ap length (e .1), e .0, c .if1 .left)) ∙ ap (lineOf t) (sym (e .1))
 
-tile-ids-requires : tie.Need-tile-ids-requires
-tile-ids-requires c κs = search needs
+tile-entries-requires : tie.Need-tile-entries-requires
+tile-entries-requires c κs = search needs
 
 same-length : tie.Need-same-length
 same-length c = search needs
 
 returns : tie.Need-returns
 returns c =
-    let e = rw (c .if1 .taken) at (c .before .before .before .tile-ids .ensures .1) in
+    let e = rw (c .if1 .taken) at (c .before .before .before .tile-entries .ensures .1) in
     rw (← e) (puts-none _ _)
 
 slice-reshare-prefix-put-line : tie.Need-slice-reshare-prefix-put-line
@@ -55,7 +55,7 @@ pub put-tile-spec : {M : Type 1} → statement M
 put-tile-spec =
     tie.close
     (tie.spec
-    tile-ids-requires
+    tile-entries-requires
     same-length
     returns
     slice-reshare-prefix-put-line

@@ -20,10 +20,10 @@ use Rattle.lister.proofs.listing.put_tiles.Statement.{statement}
 use Rattle.lister.proofs.listing.put_tiles.Tie as tie
 
 abbrev Inv-loop : tie.InvT-loop
-Inv-loop pool header ids₀ out₀ at tiles next₀ t₀ ids out next t = Puts out₀ at (tileLines pool t) out next × (t ≤ tiles) × (length ids ≡ length ids₀)
+Inv-loop pool header list₀ out₀ at tiles next₀ t₀ list out next t = Puts out₀ at (tileLines pool t) out next × (t ≤ tiles) × (length list ≡ length list₀)
 
 abbrev μ-loop : tie.MeasureT-loop
-μ-loop pool header ids₀ out₀ at tiles next₀ t₀ ids out next t = tiles - t
+μ-loop pool header list₀ out₀ at tiles next₀ t₀ list out next t = tiles - t
 
 -- a list is that of the layout that the header carries
 list-is : (p : List ℕ) (header : Header) → HeaderOf (layoutOf p) p header → (t : ℕ)

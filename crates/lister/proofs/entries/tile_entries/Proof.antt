@@ -1,4 +1,4 @@
--- `tile_ids`: the link names the blocks that hold the ids still to be copied (`Following`); with none left, all are.
+-- `tile_entries`: the link names the blocks that hold the entries still to be copied (`Following`); with none left, all are.
 use mathlib.Core.Path.{_≡_, refl, ap, _∙_}
 use Prim.Native.Nat.{ℕ, suc, _+_, _*_, _-_, _<_, _≤_, min}
 use native.Mathlib.Omega.{arith}
@@ -11,17 +11,17 @@ use Rattle.pool.specs.Lists.{listOf}
 use Rattle.lister.proofs.Writing.{take-written, counts}
 use Rattle.lister.proofs.Following.{Following, follow-start, follow-block, follow-step, follow-end, block-within, tile-within, tile-entries, length-part, getD-part}
 use borrow.Author.Needs.{needs}
-use Rattle.lister.proofs.ids.tile_ids.Statement.{statement}
-use Rattle.lister.proofs.ids.tile_ids.Tie as tie
+use Rattle.lister.proofs.entries.tile_entries.Statement.{statement}
+use Rattle.lister.proofs.entries.tile_entries.Tie as tie
 
 abbrev Inv-loop : tie.InvT-loop
-Inv-loop pool layout from ids₀ number at entries link₀ done₀ ids link done =
+Inv-loop pool layout from list₀ number at entries link₀ done₀ list link done =
     let L = layoutFor layout in
-    Following (L .ids) (L .poison) (blockWord L (tilesOf pool) pool) (blocksOf pool) (listOf L (tilesOf pool) pool number) ids₀ ids link done
-    × (entries ≡ length (listOf L (tilesOf pool) pool number)) × (entries ≤ length ids₀) × (length ids ≡ length ids₀)
+    Following (L .ids) (L .poison) (blockWord L (tilesOf pool) pool) (blocksOf pool) (listOf L (tilesOf pool) pool number) list₀ list link done
+    × (entries ≡ length (listOf L (tilesOf pool) pool number)) × (entries ≤ length list₀) × (length list ≡ length list₀)
 
 abbrev μ-loop : tie.MeasureT-loop
-μ-loop pool layout from ids₀ number at entries link₀ done₀ ids link done = entries - done
+μ-loop pool layout from list₀ number at entries link₀ done₀ list link done = entries - done
 
 -- the words of the tile lie within the pool
 words : (s : tie.Start Inv-loop μ-loop) → let L = layoutFor (s .args .layout) in L .header + L .tile * s .args .tile .0 + L .tile ≤ length (now (s .args .pool))
@@ -76,7 +76,7 @@ loop-holds c =
     let number = c .before .before .before .before .wide .ensures in
     let entries : c .before .wide2 .result ≡ length (listOf (layoutFor (s .args .layout)) (tilesOf p) p (s .args .tile .0)) =
     (rw number at (c .before .wide2 .ensures)) ∙ tile-entries fair p (s .pre .0 .0) (s .args .tile .0) (s .pre .1 .0 .1) in
-    rw number (follow-start fair p (s .pre .0 .0) (s .args .tile .0) (s .pre .1 .0 .1) (now (s .args .ids)), entries, omega (arith, s .pre .1 .1), refl)
+    rw number (follow-start fair p (s .pre .0 .0) (s .args .tile .0) (s .pre .1 .0 .1) (now (s .args .list)), entries, omega (arith, s .pre .1 .1), refl)
 
 sub-wide : tie.Need-sub-wide Inv-loop μ-loop
 sub-wide c = omega (arith, named c)
@@ -149,8 +149,8 @@ returns c =
       rw (e .0, e .1) (take-written _ _ (omega arith)) ∙ ap list (c .before .before .before .before .before .before .wide .ensures),
     )
 
-pub tile-ids-spec : {M : Type 1} → statement M
-tile-ids-spec =
+pub tile-entries-spec : {M : Type 1} → statement M
+tile-entries-spec =
     tie.close
     (tie.spec
     Inv-loop

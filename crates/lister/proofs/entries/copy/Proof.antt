@@ -7,35 +7,35 @@ use lib.ListN.{take, drop}
 use Rattle.lister.proofs.Writing.{Writing, write-start, write-step, write-end}
 use borrow.Author.Needs.{needs}
 use native.Mathlib.Omega.{arith}
-use Rattle.lister.proofs.ids.copy.Statement.{statement}
-use Rattle.lister.proofs.ids.copy.Tie as tie
+use Rattle.lister.proofs.entries.copy.Statement.{statement}
+use Rattle.lister.proofs.entries.copy.Tie as tie
 
 abbrev Inv-loop : tie.InvT-loop
-Inv-loop pool from count ids₀ at k₀ ids k = Writing ids₀ at (take count (drop from pool)) ids k
+Inv-loop pool from count list₀ at k₀ list k = Writing list₀ at (take count (drop from pool)) list k
 
 abbrev μ-loop : tie.MeasureT-loop
-μ-loop pool from count ids₀ at k₀ ids k = count - k
+μ-loop pool from count list₀ at k₀ list k = count - k
 
 loop-holds : tie.Need-loop-holds Inv-loop μ-loop
 loop-holds c = write-start _ _ _
 
-add-ids : tie.Need-add-ids Inv-loop μ-loop
-add-ids c = search needs
+add-list : tie.Need-add-list Inv-loop μ-loop
+add-list c = search needs
 
-mul-ids : tie.Need-mul-ids Inv-loop μ-loop
-mul-ids c = search needs
+mul-list : tie.Need-mul-list Inv-loop μ-loop
+mul-list c = search needs
 
-shared-slice-read-ids : tie.Need-shared-slice-read-ids Inv-loop μ-loop
-shared-slice-read-ids c = search needs
+shared-slice-read-list : tie.Need-shared-slice-read-list Inv-loop μ-loop
+shared-slice-read-list c = search needs
 
-add-ids-2 : tie.Need-add-ids-2 Inv-loop μ-loop
-add-ids-2 c = search needs
+add-list-2 : tie.Need-add-list-2 Inv-loop μ-loop
+add-list-2 c = search needs
 
-mul-ids-2 : tie.Need-mul-ids-2 Inv-loop μ-loop
-mul-ids-2 c = search needs
+mul-list-2 : tie.Need-mul-list-2 Inv-loop μ-loop
+mul-list-2 c = search needs
 
-slice-write-ids : tie.Need-slice-write-ids Inv-loop μ-loop
-slice-write-ids c = search needs
+slice-write-list : tie.Need-slice-write-list Inv-loop μ-loop
+slice-write-list c = search needs
 
 add-k : tie.Need-add-k Inv-loop μ-loop
 add-k c = search needs
@@ -65,12 +65,12 @@ copy-spec =
     Inv-loop
     μ-loop
     loop-holds
-    add-ids
-    mul-ids
-    shared-slice-read-ids
-    add-ids-2
-    mul-ids-2
-    slice-write-ids
+    add-list
+    mul-list
+    shared-slice-read-list
+    add-list-2
+    mul-list-2
+    slice-write-list
     add-k
     loop-less
     loop-again

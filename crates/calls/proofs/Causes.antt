@@ -6,7 +6,7 @@ use Prim.Native.Nat.{ℕ, _<_}
 use native.Mathlib.Omega.{arith}
 use Rattle.shape.specs.declared.Shape.{Shape}
 use Rattle.shape.specs.Shape.{InRange}
-use Rattle.pool.specs.Words.{edition, layoutOf}
+use Rattle.pool.specs.Words.{idLimit, layoutOf}
 use Rattle.pool.specs.Sound.{Sound}
 use Rattle.calls.specs.declared.Binned.{Binned}
 use Rattle.calls.specs.Tables.{refusedBin, CauseSays, BinSays}
@@ -17,7 +17,7 @@ refused-says S (CauseSays.bad-id i n) ne e f = BinSays.bad-id S i (e ∙ ap refu
 refused-says S (CauseSays.out-of-range i o n) ne e f = BinSays.out-of-range S i o (e ∙ ap refusedBin n) f
 refused-says S (CauseSays.neither i o n) ne e f = absurd (ne n)
 
-pub neither-says : {shape : Shape} {id number : ℕ} → CauseSays shape id number → number ≡ 0 → (id < edition .limit) × InRange shape
+pub neither-says : {shape : Shape} {id number : ℕ} → CauseSays shape id number → number ≡ 0 → (id < idLimit) × InRange shape
 neither-says (CauseSays.bad-id i n) z = absurd (omega arith)
 neither-says (CauseSays.out-of-range i o n) z = absurd (omega arith)
 neither-says (CauseSays.neither i o n) z = (i, o)

@@ -10,15 +10,16 @@ use lib.ListN.{length}
 use borrow.Author.Tests.{eq-eqb, ne-eqb}
 use Rattle.numbers.specs.Ceil.{ceil}
 use Rattle.numbers.proofs.Ceil.{eq-or-ne}
+use Rattle.numbers.specs.Flag.{flagged}
 use Rattle.screen.specs.declared.Screen.{Screen}
 use Rattle.screen.specs.Screen.{tiles}
 use Rattle.shape.specs.declared.Shape.{Shape}
 use Rattle.snap.specs.declared.PixelShape.{PixelShape}
-use Rattle.walk.specs.Touched.{TouchedTiles}
-use Rattle.pool.specs.Words.{Layout, Fair, Known, edition, layoutOf}
+use Rattle.walk.specs.Touched.{TouchedTiles, FlagsOf}
+use Rattle.pool.specs.Words.{Layout, Fair, Known, idLimit, layoutOf}
 use Rattle.pool.specs.State.{State}
 use Rattle.pool.specs.Sound.{Sound, screenOf, tilesOf}
-use Rattle.pool.proofs.Editions.{known-fair, known-limit, opened-layout}
+use Rattle.pool.proofs.Editions.{known-fair, opened-layout}
 use Rattle.lists.specs.Appending.{need, appendAll, Distinct}
 use Rattle.lists.specs.Releasing.{release}
 use Rattle.lists.specs.Steps.{appendAllState, releaseState}
@@ -29,6 +30,7 @@ use Rattle.calls.specs.declared.Released.{Released}
 use Rattle.calls.specs.declared.Found.{Found}
 use Rattle.calls.specs.Tables.{PlaceSays, BinSays, BinPixelsSays, ReadSays, ReleaseSays, listIn, markIn}
 use Rattle.demands.specs.History.{Entry, binned, binned-pixels, found, released, numberOf, Step, Run, lessRoom}
+use Rattle.calls.proofs.Keeping.{entry-in-range}
 use Rattle.calls.proofs.Placing.{touched-distinct}
 use Rattle.demands.proofs.Demand1.{demand-1}
 
@@ -68,19 +70,20 @@ module _ {L : Layout} (k : Known L) {n : ℕ} {p w : List ℕ} {s : State} (W : 
   unchanged : {q : List ℕ} (Says : List ℕ → Type 0) → q ≡ p → Says w → Follows L n Says q
   unchanged {q} Says e h = (w, s, h, subst (λ (x : List ℕ). Wider L n x w s) (sym e) W)
 
-  place-follows : {shape : Shape} {id : ℕ} {a : Binned} {q : List ℕ} → id < edition .limit → PlaceSays p shape id a q → a .number ≢ 8
+  place-follows : {shape : Shape} {id : ℕ} {a : Binned} {q : List ℕ} → id < idLimit → PlaceSays p shape id a q → a .number ≢ 8
       → Follows L n (λ v. PlaceSays w shape id a v) q
   place-follows i (PlaceSays.no-room ts T l e f) ne = absurd (ne (ap (λ (b : Binned). b .number) e))
-  place-follows {shape} {id} {a} {q} i (PlaceSays.done ts T l e f) ne =
+  place-follows {shape} {id} {a} {q} i (PlaceSays.done ts T l flag F e f) ne =
+      let entry : ℕ → ℕ = (λ t. flagged id (flag t)) in
       let D = touched-distinct T in
       let T′ : TouchedTiles (screenOf w) shape ts = subst (λ (d : Screen). TouchedTiles d shape ts) (sym (W .screens)) T in
       let same = need-same ts D in
       let more = wider-free fair W in
       let e′ : a ≡ record { number = 0; tiles = length ts; blocks = need (layoutOf w) w ts } = rw same e in (
-        appendAll (layoutOf w) (tilesOf w) w ts id,
-        appendAllState (L .ids) s ts id,
-        PlaceSays.done ts T′ (omega arith) e′ refl,
-        rw (f, layout, layout′) (wider-append-all fair W ts id D (omega (arith, known-limit k)) (rw layout at l)),
+        appendAll (layoutOf w) (tilesOf w) w ts entry,
+        appendAllState (L .ids) s ts entry,
+        PlaceSays.done ts T′ (omega arith) flag (subst (λ (d : Screen). FlagsOf d shape flag) (sym (W .screens)) F) e′ refl,
+        rw (f, layout, layout′) (wider-append-all fair W ts entry D (λ t. entry-in-range k i (flag t)) (rw layout at l)),
       )
 
   bin-follows : {shape : Shape} {id : ℕ} {a : Binned} {q : List ℕ} → BinSays p shape id a q → a .number ≢ 8 → Follows L n (λ v. BinSays w shape id a v) q

@@ -12,7 +12,7 @@ use Rattle.numbers.proofs.Ceil.{eq-or-ne, lt-or-ge, below-or-last}
 use Rattle.screen.specs.Screen.{tiles}
 use Rattle.shape.specs.declared.Shape.{Shape}
 use Rattle.shapes.specs.Shapes.{countOf, shapeAt}
-use Rattle.pool.specs.Words.{edition, layoutOf, room}
+use Rattle.pool.specs.Words.{idLimit, layoutOf, room}
 use Rattle.pool.specs.Sound.{Sound}
 use Rattle.calls.specs.declared.Binned.{Binned}
 use Rattle.calls.specs.Tables.{PlaceSays, BinSays, refusedBin}
@@ -76,7 +76,7 @@ answer-among S (BinSays.damaged n e f) = absurd (n S)
 answer-among S (BinSays.bad-id S′ i e f) = inr (inl (ap (λ (b : Binned). b .number) e))
 answer-among S (BinSays.out-of-range S′ i o e f) = inr (inr (inl (ap (λ (b : Binned). b .number) e)))
 answer-among S (BinSays.placed S′ i o (PlaceSays.no-room ts T l e f)) = inr (inr (inr (inl (ap (λ (b : Binned). b .number) e))))
-answer-among S (BinSays.placed S′ i o (PlaceSays.done ts T l e f)) = inl (ap (λ (b : Binned). b .number) e)
+answer-among S (BinSays.placed S′ i o (PlaceSays.done ts T l flag F e f)) = inl (ap (λ (b : Binned). b .number) e)
 
 bytes-among : (ws : List ℤ) (bytes p : List ℕ) → Sound (layoutOf p) p → (n : ℕ) (q : List ℕ) → OneByOne ws bytes n p q
     → (k : ℕ) → k < n → Among (getD bytes k 0) (0 ∷ 5 ∷ 7 ∷ 8 ∷ [])
@@ -126,7 +126,7 @@ below-0-is-5 n S (BinSays.bad-id S′ i e f) = (e, f)
 below-0-is-5 n S (BinSays.out-of-range S′ i o e f) = absurd (omega arith)
 below-0-is-5 n S (BinSays.placed S′ i o w) = absurd (omega arith)
 
-pub past-the-ids-alike : {p : List ℕ} {shape : Shape} {i j : ℕ} {a : Binned} {q : List ℕ} → edition .limit ≤ i → edition .limit ≤ j → BinSays p shape i a q → BinSays p shape j a q
+pub past-the-ids-alike : {p : List ℕ} {shape : Shape} {i j : ℕ} {a : Binned} {q : List ℕ} → idLimit ≤ i → idLimit ≤ j → BinSays p shape i a q → BinSays p shape j a q
 past-the-ids-alike hi hj (BinSays.damaged n e f) = BinSays.damaged n e f
 past-the-ids-alike hi hj (BinSays.bad-id S i e f) = BinSays.bad-id S hj e f
 past-the-ids-alike hi hj (BinSays.out-of-range S i o e f) = absurd (omega arith)

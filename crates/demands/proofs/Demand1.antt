@@ -1,6 +1,7 @@
 -- Demand 1 holds of every call on any words.
 use mathlib.Core.Path.{_≡_, refl, sym, ap, subst}
 use mathlib.Core.Logic.{_≢_, _⊎_, inl, inr, ⊎-elim}
+use mathlib.Core.Bool.{false}
 use mathlib.Core.List.{List, [], _∷_}
 use Prim.Native.Nat.{ℕ, _<_}
 use native.Mathlib.Omega.{arith}
@@ -9,7 +10,7 @@ use Rattle.screen.specs.Screen.{tiles}
 use Rattle.shape.specs.declared.Shape.{Shape}
 use Rattle.snap.specs.declared.PixelShape.{PixelShape}
 use Rattle.snap.proofs.Shapes.{refused-six-or-seven}
-use Rattle.pool.specs.Words.{Layout, edition, layoutOf, room}
+use Rattle.pool.specs.Words.{Layout, idLimit, layoutOf, room}
 use Rattle.pool.specs.Sound.{Sound, tilesOf, blocksOf}
 use Rattle.pool.proofs.Editions.{layout-fair}
 use Rattle.pool.proofs.Opening.{header-fits, opening-length, opening-tail}
@@ -18,10 +19,11 @@ use Rattle.calls.specs.declared.Binned.{Binned}
 use Rattle.calls.specs.declared.Released.{Released}
 use Rattle.calls.specs.declared.Found.{Found}
 use Rattle.calls.specs.declared.HighWater.{HighWater}
+use Rattle.touch.specs.declared.Cover.{Cover}
 use Rattle.calls.specs.declared.Answered.{Answered}
 use Rattle.pool.specs.Opening.{OpenSays}
-use Rattle.calls.specs.Tables.{AuditSays, PlaceSays, BinSays, BinPixelsSays, ReadSays, HighWaterSays, ReleaseSays, refusedBin}
-use Rattle.calls.specs.Questions.{RefusedWith, TouchSays, BoxSays, CornerSays}
+use Rattle.calls.specs.Tables.{AuditSays, PlaceSays, BinSays, BinPixelsSays, ReadSays, HighWaterSays, ReleaseSays, refusedBin, notFound}
+use Rattle.calls.specs.Questions.{RefusedWith, AnswerSays, BoxSays, CornerSays}
 use Rattle.calls.proofs.Keeping.{bin-appends}
 use Rattle.demands.specs.History.{Entry, binned, binned-pixels, found, released, numberOf, Step}
 use Rattle.demands.specs.Demand1.{Among, refusals, RestZero, Outside, Demand1, Demand1Open, Demand1Audit, Demand1HighWater, Demand1Question}
@@ -41,11 +43,11 @@ acceptance z out = record { number-is = inl z; refused = λ ne. absurd (ne z); a
 
 -- ---- the bins
 
-placed-either : {p : List ℕ} {shape : Shape} {id : ℕ} {a : Binned} {q : List ℕ} → Sound (layoutOf p) p → id < edition .limit → PlaceSays p shape id a q
+placed-either : {p : List ℕ} {shape : Shape} {id : ℕ} {a : Binned} {q : List ℕ} → Sound (layoutOf p) p → id < idLimit → PlaceSays p shape id a q
     → ((a ≡ refusedBin 8) × (q ≡ p)) ⊎ ((a .number ≡ 0) × Outside (room (layoutOf p) (tilesOf p) (blocksOf p)) p q)
 placed-either S i (PlaceSays.no-room ts T l e f) = inl (e, f)
-placed-either {p} {shape} {id} {a} {q} S i (PlaceSays.done ts T l e f) =
-    inr (ap (λ (b : Binned). b .number) e, rw f (kept-outside S (bin-appends S id i T l .kept)))
+placed-either {p} {shape} {id} {a} {q} S i (PlaceSays.done ts T l flag F e f) =
+    inr (ap (λ (b : Binned). b .number) e, rw f (kept-outside S (bin-appends S id i T l flag .kept)))
 
 number-of : {a : Binned} {n : ℕ} → a ≡ refusedBin n → a .number ≡ n
 number-of e = ap (λ (b : Binned). b .number) e
@@ -74,10 +76,13 @@ bin-pixels-1 (BinPixelsSays.placed S i k o w) =
 
 -- ---- reading and releasing
 
+nothing-found : {a : Found} {n : ℕ} → a ≡ notFound n → (a .id ≡ 0) × (a .whole ≡ false)
+nothing-found e = (ap (λ (b : Found). b .id) e, ap (λ (b : Found). b .whole) e)
+
 read-1 : {p : List ℕ} {t place : ℕ} {a : Found} {q : List ℕ} → ReadSays p t place a → q ≡ p → Demand1 p (found t place a) q
-read-1 (ReadSays.damaged n e) f = refusal 4 (ap (λ (b : Found). b .number) e) (omega arith) (inl refl) (ap (λ (b : Found). b .id) e) f
-read-1 (ReadSays.no-tile S t e) f = refusal 9 (ap (λ (b : Found). b .number) e) (omega arith) (inr (inl refl)) (ap (λ (b : Found). b .id) e) f
-read-1 (ReadSays.past S t l e) f = refusal 10 (ap (λ (b : Found). b .number) e) (omega arith) (inr (inr (inl refl))) (ap (λ (b : Found). b .id) e) f
+read-1 (ReadSays.damaged n e) f = refusal 4 (ap (λ (b : Found). b .number) e) (omega arith) (inl refl) (nothing-found e) f
+read-1 (ReadSays.no-tile S t e) f = refusal 9 (ap (λ (b : Found). b .number) e) (omega arith) (inr (inl refl)) (nothing-found e) f
+read-1 (ReadSays.past S t l e) f = refusal 10 (ap (λ (b : Found). b .number) e) (omega arith) (inr (inr (inl refl))) (nothing-found e) f
 read-1 (ReadSays.done S t l e) f = acceptance (ap (λ (b : Found). b .number) e) (same-outside f)
 
 release-1 : {p : List ℕ} {t : ℕ} {a : Released} {q : List ℕ} → ReleaseSays p t a q → Demand1 p (released t a) q
@@ -120,12 +125,12 @@ refused-among (RefusedWith.bad-screen n e) = inl e
 refused-among (RefusedWith.no-tile s t e) = inr (inl e)
 refused-among (RefusedWith.out-of-range s t o e) = inr (inr (inl e))
 
-question-1 : {P : Type 0} {d : Screen} {t : ℕ} {shape : Shape} {a : Answered} → TouchSays P d t shape a → Demand1Question a
-question-1 (TouchSays.refused n c e) = record {
+question-1 : {P : Cover → Type 0} {d : Screen} {t : ℕ} {shape : Shape} {a : Answered} → AnswerSays P d t shape a → Demand1Question a
+question-1 (AnswerSays.refused n c e) = record {
   number-is = inr (subst (λ (m : ℕ). Among m (1 ∷ 9 ∷ 7 ∷ [])) (sym (ap (λ (b : Answered). b .number) e)) (refused-among c));
-  refused = λ _. ap (λ (b : Answered). b .touches) e;
+  refused = λ _. ap (λ (b : Answered). b .cover) e;
 }
-question-1 (TouchSays.done o r s e) = let z = ap (λ (b : Answered). b .number) e in record { number-is = inl z; refused = λ ne. absurd (ne z) }
+question-1 (AnswerSays.done o r s e) = let z = ap (λ (b : Answered). b .number) e in record { number-is = inl z; refused = λ ne. absurd (ne z) }
 
 pub demand-1-box : {d : Screen} {t : ℕ} {shape : Shape} {a : Answered} → BoxSays d t shape a → Demand1Question a
 demand-1-box = question-1

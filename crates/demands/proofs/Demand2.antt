@@ -1,33 +1,44 @@
 -- Demand 2 holds of every bin and every release of a sound pool.
 use mathlib.Core.Path.{_≡_, refl, sym, ap, subst, _∙_}
 use mathlib.Core.Logic.{_≢_, ⊎-elim}
-use mathlib.Core.List.{List}
+use mathlib.Core.Bool.{Bool}
+use mathlib.Core.List.{List, [], _∷_, _++_, append-nil}
 use Prim.Native.Nat.{ℕ, _≤_, _<_}
 use native.Mathlib.Omega.{arith}
 use lib.ListN.{length}
 use Rattle.numbers.specs.Ceil.{ceil}
+use Rattle.numbers.specs.Flag.{flagged}
+use Rattle.numbers.proofs.Says.{says-true, says-false}
+use Rattle.screen.specs.Rectangle.{rectangle}
 use Rattle.shape.specs.declared.Shape.{Shape}
 use Rattle.shape.specs.Shape.{InRange}
+use Rattle.touch.specs.declared.Cover.{Cover}
+use Rattle.touch.specs.declared.Cover.the-variants.{Apart, Partly, Wholly}
+use Rattle.touch.specs.Cover.{CoverSays}
+use Rattle.touch.proofs.Points.{wholly-touches}
+use Rattle.walk.specs.Touched.{TouchedTiles, FlagsOf}
+use Rattle.walk.proofs.Exists.{flags-exist}
 use Rattle.snap.specs.declared.PixelShape.{PixelShape}
 use Rattle.snap.specs.declared.SnappedShape.{SnappedShape}
 use Rattle.snap.specs.Shapes.{shapeOf}
 use Rattle.snap.proofs.Shapes.{SixOrSeven, refused-six-or-seven, whole-in-range}
-use Rattle.pool.specs.Words.{Layout, edition, layoutOf, tileWord}
+use Rattle.pool.specs.Words.{Layout, idLimit, layoutOf, tileWord}
 use Rattle.pool.specs.State.{State, tileOf, times}
-use Rattle.pool.specs.Sound.{Shows, Sound, tilesOf, blocksOf}
+use Rattle.pool.specs.Sound.{Shows, Sound, screenOf, tilesOf, blocksOf}
 use Rattle.pool.proofs.Editions.{layout-known, layout-fair, known-poison}
 use Rattle.pool.proofs.Lists.{listOf-shows}
 use Rattle.pool.proofs.Unique.{state-unique}
 use Rattle.lists.specs.Releasing.{release}
 use Rattle.lists.specs.Steps.{releaseState}
+use Rattle.lists.specs.Promises.{Appended}
 use Rattle.lists.proofs.Gives.{times-onto}
 use Rattle.lists.proofs.Releases.{release-releases}
 use Rattle.calls.specs.declared.Binned.{Binned}
 use Rattle.calls.specs.declared.Released.{Released}
 use Rattle.calls.specs.Tables.{PlaceSays, BinSays, BinPixelsSays, ReleaseSays, refusedBin, listIn}
 use Rattle.calls.proofs.Keeping.{bin-appends, kept-layout}
-use Rattle.demands.specs.Demand2.{StaysSound, NoRoom, HasRoom, Listed, Demand2Bin, Demand2Pixels, Emptied, Demand2Release}
-use Rattle.demands.proofs.Touched.{touched-in, untouched-in}
+use Rattle.demands.specs.Demand2.{StaysSound, NoRoom, HasRoom, gained, Listed, Demand2Bin, Demand2Pixels, Emptied, Demand2Release}
+use Rattle.demands.proofs.Touched.{tile-proper, touched-in, untouched-in}
 use Rattle.demands.proofs.OneOutcome.{bin-one-outcome, bin-pixels-one-outcome}
 use Rattle.demands.proofs.Accepted.{same-stays, kept-stays, kept-list, kept-mark}
 
@@ -37,33 +48,43 @@ use Rattle.demands.proofs.Accepted.{same-stays, kept-stays, kept-list, 
 other : {C : Type 0} {a : Binned} {m n : ℕ} → a ≡ refusedBin m → a .number ≡ n → m ≢ n → C
 other {C} {a} {m} {n} e z ne = absurd (ne (sym (ap (λ (b : Binned). b .number) e) ∙ z))
 
+-- each list gains what the shape's cover of its tile says
+appended-lists : {p : List ℕ} {shape : Shape} (id : ℕ) (S : Sound (layoutOf p) p) {ts : List ℕ} → TouchedTiles (screenOf p) shape ts
+    → (flag : ℕ → Bool) → FlagsOf (screenOf p) shape flag → {q : List ℕ} → Appended (layoutOf p) p S q ts (λ t. flagged id (flag t))
+    → (t : ℕ) → t < tilesOf p → (r : Cover) → CoverSays r shape (rectangle (screenOf p) t) → listIn q t ≡ listIn p t ++ gained r id
+appended-lists {p} id S T flag F A t h Apart n = kept-list S (A .kept) t ∙ A .others t h (untouched-in T t h n) ∙ sym (append-nil (listIn p t))
+appended-lists {p} id S T flag F A t h Partly (k, n) =
+    kept-list S (A .kept) t ∙ A .gains t (touched-in T t h k) ∙ ap (λ (b : Bool). listIn p t ++ (flagged id b ∷ [])) (says-false (F t h) n)
+appended-lists {p} id S T flag F A t h Wholly w =
+    let k = wholly-touches (tile-proper (screenOf p) (S .opened .screen) t h) w in
+    kept-list S (A .kept) t ∙ A .gains t (touched-in T t h k) ∙ ap (λ (b : Bool). listIn p t ++ (flagged id b ∷ [])) (says-true (F t h) w)
+
 module _ {p : List ℕ} {shape : Shape} {id : ℕ} {a : Binned} {q : List ℕ} where
   place-other : {n : ℕ} → PlaceSays p shape id a q → a .number ≡ n → 8 ≢ n → 0 ≢ n → ⊥
   place-other (PlaceSays.no-room ts T l e f) z ne ne′ = other e z ne
-  place-other (PlaceSays.done ts T l e f) z ne ne′ = ne′ (sym (ap (λ (b : Binned). b .number) e) ∙ z)
+  place-other (PlaceSays.done ts T l flag F e f) z ne ne′ = ne′ (sym (ap (λ (b : Binned). b .number) e) ∙ z)
 
-  place-no-room : id < edition .limit → InRange shape → PlaceSays p shape id a q → a .number ≡ 8 → NoRoom p shape id
+  place-no-room : id < idLimit → InRange shape → PlaceSays p shape id a q → a .number ≡ 8 → NoRoom p shape id
   place-no-room i o (PlaceSays.no-room ts T l e f) z = (record { id< = i; in-range = o; ts = ts; touched = T }, l)
-  place-no-room i o (PlaceSays.done ts T l e f) z = absurd (omega (arith, ap (λ (b : Binned). b .number) e))
+  place-no-room i o (PlaceSays.done ts T l flag F e f) z = absurd (omega (arith, ap (λ (b : Binned). b .number) e))
 
-  place-done : id < edition .limit → InRange shape → PlaceSays p shape id a q → a .number ≡ 0 → HasRoom p shape id
+  place-done : id < idLimit → InRange shape → PlaceSays p shape id a q → a .number ≡ 0 → HasRoom p shape id
   place-done i o (PlaceSays.no-room ts T l e f) z = other e z (omega arith)
-  place-done i o (PlaceSays.done ts T l e f) z = (record { id< = i; in-range = o; ts = ts; touched = T }, l)
+  place-done i o (PlaceSays.done ts T l flag F e f) z = (record { id< = i; in-range = o; ts = ts; touched = T }, l)
 
-  place-stays : Sound (layoutOf p) p → id < edition .limit → PlaceSays p shape id a q → StaysSound p q
+  place-stays : Sound (layoutOf p) p → id < idLimit → PlaceSays p shape id a q → StaysSound p q
   place-stays S i (PlaceSays.no-room ts T l e f) = same-stays S f
-  place-stays S i (PlaceSays.done ts T l e f) =
-      let A = bin-appends S id i T l in
+  place-stays S i (PlaceSays.done ts T l flag F e f) =
+      let A = bin-appends S id i T l flag in
       subst (λ (x : List ℕ). StaysSound p x) (sym f) (kept-stays S (A .kept) (A .sound))
 
-  place-listed : Sound (layoutOf p) p → id < edition .limit → PlaceSays p shape id a q → a .number ≡ 0 → Listed p shape id a q
+  place-listed : Sound (layoutOf p) p → id < idLimit → PlaceSays p shape id a q → a .number ≡ 0 → Listed p shape id a q
   place-listed S i (PlaceSays.no-room ts T l e f) z = other e z (omega arith)
-  place-listed S i (PlaceSays.done ts T l e f) z =
-      let A = bin-appends S id i T l in
+  place-listed S i (PlaceSays.done ts T l flag F e f) z =
+      let A = bin-appends S id i T l flag in
       subst (λ (x : List ℕ). Listed p shape id a x) (sym f)
       (record {
-        touched = λ t h k. kept-list S (A .kept) t ∙ A .gains t (touched-in T t h k);
-        others = λ t h n. kept-list S (A .kept) t ∙ A .others t h (untouched-in T t h n);
+        lists = appended-lists id S T flag F A;
         marks = λ t h. rw (kept-list S (A .kept) t, kept-mark S (A .kept) t) (A .marks t h);
         tiles = (ts, T, ap (λ (b : Binned). b .tiles) e);
         blocks = omega (arith, ap (λ (b : Binned). b .blocks) e, A .taken);
@@ -78,13 +99,13 @@ module _ {p : List ℕ} {shape : Shape} {id : ℕ} {a : Binned} {q : List ℕ} w
   bin-not-damaged S (BinSays.out-of-range S′ i o e f) z = other e z (omega arith)
   bin-not-damaged S (BinSays.placed S′ i o w) z = place-other w z (omega arith) (omega arith)
 
-  bin-bad-id : BinSays p shape id a q → a .number ≡ 5 → edition .limit ≤ id
+  bin-bad-id : BinSays p shape id a q → a .number ≡ 5 → idLimit ≤ id
   bin-bad-id (BinSays.damaged n e f) z = other e z (omega arith)
   bin-bad-id (BinSays.bad-id S i e f) z = i
   bin-bad-id (BinSays.out-of-range S i o e f) z = other e z (omega arith)
   bin-bad-id (BinSays.placed S i o w) z = absurd (place-other w z (omega arith) (omega arith))
 
-  bin-out-of-range : BinSays p shape id a q → a .number ≡ 7 → (id < edition .limit) × (InRange shape → ⊥)
+  bin-out-of-range : BinSays p shape id a q → a .number ≡ 7 → (id < idLimit) × (InRange shape → ⊥)
   bin-out-of-range (BinSays.damaged n e f) z = other e z (omega arith)
   bin-out-of-range (BinSays.bad-id S i e f) z = other e z (omega arith)
   bin-out-of-range (BinSays.out-of-range S i o e f) z = (i, o)
@@ -123,7 +144,10 @@ module _ {p : List ℕ} {shape : Shape} {id : ℕ} {a : Binned} {q : List ℕ} w
     );
     done = (
       (λ z. bin-done B z .0),
-      λ h. let o = h .0 in bin-number B (BinSays.placed S (o .id<) (o .in-range) (PlaceSays.done (o .ts) (o .touched) (h .1) refl refl)),
+      λ h.
+          let o = h .0 in
+          let flags = flags-exist (screenOf p) (S .opened .screen) shape in
+          bin-number B (BinSays.placed S (o .id<) (o .in-range) (PlaceSays.done (o .ts) (o .touched) (h .1) (flags .0) (flags .1) refl refl)),
     );
     listed = λ z. bin-done B z .1;
     stays = bin-stays S B;
@@ -144,14 +168,14 @@ module _ {p : List ℕ} {shape : PixelShape} {id : ℕ} {a : Binned} {q : List �
   pixels-not-damaged S (BinPixelsSays.offence S′ i n o e f) z = offence-other shape o e z (omega arith) (omega arith)
   pixels-not-damaged S (BinPixelsSays.placed S′ i whole o w) z = place-other w z (omega arith) (omega arith)
 
-  pixels-bad-id : BinPixelsSays p shape id a q → a .number ≡ 5 → edition .limit ≤ id
+  pixels-bad-id : BinPixelsSays p shape id a q → a .number ≡ 5 → idLimit ≤ id
   pixels-bad-id (BinPixelsSays.damaged n e f) z = other e z (omega arith)
   pixels-bad-id (BinPixelsSays.bad-id S i e f) z = i
   pixels-bad-id (BinPixelsSays.offence S i n o e f) z = offence-other shape o e z (omega arith) (omega arith)
   pixels-bad-id (BinPixelsSays.placed S i whole o w) z = absurd (place-other w z (omega arith) (omega arith))
 
   pixels-offence : Sound (layoutOf p) p → BinPixelsSays p shape id a q → (n : ℕ) → SixOrSeven n → a .number ≡ n
-      → (id < edition .limit) × (shapeOf shape ≡ SnappedShape.Refused n)
+      → (id < idLimit) × (shapeOf shape ≡ SnappedShape.Refused n)
   pixels-offence S (BinPixelsSays.damaged d e f) n s z = absurd (d S)
   pixels-offence S (BinPixelsSays.bad-id S′ i e f) n s z =
       ⊎-elim (λ (u : n ≡ 6). other e z (omega arith)) (λ (u : n ≡ 7). other e z (omega arith)) s
@@ -194,7 +218,10 @@ module _ {p : List ℕ} {shape : PixelShape} {id : ℕ} {a : Binned} {q : List �
     );
     done = (
       (λ z. let r = pixels-done B z in (r .0, r .1, r .2)),
-      λ h. let o = h .2 .0 in pixels-number B (BinPixelsSays.placed S (o .id<) (h .0) (h .1) (PlaceSays.done (o .ts) (o .touched) (h .2 .1) refl refl)),
+      λ h.
+          let o = h .2 .0 in
+          let flags = flags-exist (screenOf p) (S .opened .screen) (h .0) in
+          pixels-number B (BinPixelsSays.placed S (o .id<) (h .0) (h .1) (PlaceSays.done (o .ts) (o .touched) (h .2 .1) (flags .0) (flags .1) refl refl)),
     );
     listed = λ z. let r = pixels-done B z in (r .0, r .1, r .3);
     stays = pixels-stays S B;

@@ -1,17 +1,25 @@
 -- Each public contract admits one outcome only: two that meet it are equal, in every field of the answer and in every word that is left.
 use mathlib.Core.Path.{_≡_, refl, ap}
 use mathlib.Core.Logic.{_⊎_, inl, inr}
-use mathlib.Core.Bool.{Bool, true, false}
 use mathlib.Core.List.{List}
 use Prim.Native.Nat.{ℕ, _≤_, _<_}
 use native.Mathlib.Omega.{arith}
-use Rattle.numbers.specs.Says.{Says}
+use Rattle.numbers.specs.Flag.{flagged}
+use Rattle.numbers.proofs.Says.{says-once}
 use Rattle.screen.specs.declared.Screen.{Screen}
+use Rattle.screen.specs.declared.Rectangle.{Rectangle}
+use Rattle.screen.specs.Rectangle.{rectangle}
 use Rattle.shape.specs.declared.Shape.{Shape}
+use Rattle.touch.specs.declared.Cover.{Cover}
+use Rattle.touch.specs.declared.Cover.the-variants.{Apart, Partly, Wholly}
+use Rattle.touch.specs.Cover.{BoxCoverSays}
+use Rattle.touch.proofs.Covering.{one-cover}
 use Rattle.snap.specs.declared.PixelShape.{PixelShape}
 use Rattle.snap.specs.declared.SnappedShape.{SnappedShape}
 use Rattle.pool.specs.Words.{Layout, Known, layoutOf}
+use Rattle.pool.specs.Sound.{tilesOf}
 use Rattle.lists.specs.Appending.{need}
+use Rattle.lists.proofs.Several.{append-all-same}
 use Rattle.calls.specs.declared.Binned.{Binned}
 use Rattle.calls.specs.declared.Released.{Released}
 use Rattle.calls.specs.declared.Found.{Found}
@@ -19,8 +27,9 @@ use Rattle.calls.specs.declared.HighWater.{HighWater}
 use Rattle.calls.specs.declared.Answered.{Answered}
 use Rattle.pool.specs.Opening.{OpenSays}
 use Rattle.calls.specs.Tables.{AuditSays, PlaceSays, BinSays, BinPixelsSays, ReadSays, HighWaterSays, ReleaseSays}
-use Rattle.calls.specs.Questions.{RefusedWith, InOrder, TouchSays, BoxSays, CornerSays}
+use Rattle.calls.specs.Questions.{RefusedWith, InOrder, AnswerSays, BoxSays, CornerSays}
 use Rattle.walk.proofs.Touched.{touched-tiles-unique}
+use Rattle.demands.proofs.Touched.{in-touched, tile-proper}
 
 -- the blocks are as they may be, or there is a cause for 2
 bad-or-good : {L : Layout} {blocks : ℕ} → (2048 < blocks) ⊎ (Known L → ⊥) → blocks ≤ 2048 → Known L → ⊥
@@ -66,9 +75,14 @@ high-water-one-outcome (HighWaterSays.done s h e) (HighWaterSays.done s′ h′ 
 
 place-one-outcome : {p : List ℕ} {shape : Shape} {id : ℕ} {a b : Binned} {q r : List ℕ} → PlaceSays p shape id a q → PlaceSays p shape id b r → (a ≡ b) × (q ≡ r)
 place-one-outcome (PlaceSays.no-room ts t l e f) (PlaceSays.no-room ts′ t′ l′ e′ f′) = (cc, cc)
-place-one-outcome {p} (PlaceSays.no-room ts t l e f) (PlaceSays.done ts′ t′ l′ e′ f′) = absurd (omega (arith, ap (need (layoutOf p) p) (touched-tiles-unique t t′)))
-place-one-outcome {p} (PlaceSays.done ts t l e f) (PlaceSays.no-room ts′ t′ l′ e′ f′) = absurd (omega (arith, ap (need (layoutOf p) p) (touched-tiles-unique t t′)))
-place-one-outcome (PlaceSays.done ts t l e f) (PlaceSays.done ts′ t′ l′ e′ f′) = let u = touched-tiles-unique t t′ in (cc, cc)
+place-one-outcome {p} (PlaceSays.no-room ts t l e f) (PlaceSays.done ts′ t′ l′ g′ s′ e′ f′) = absurd (omega (arith, ap (need (layoutOf p) p) (touched-tiles-unique t t′)))
+place-one-outcome {p} (PlaceSays.done ts t l g s e f) (PlaceSays.no-room ts′ t′ l′ e′ f′) = absurd (omega (arith, ap (need (layoutOf p) p) (touched-tiles-unique t t′)))
+place-one-outcome {p} {id = id} (PlaceSays.done ts t l g s e f) (PlaceSays.done ts′ t′ l′ g′ s′ e′ f′) =
+    let u = touched-tiles-unique t t′ in
+    let same =
+    append-all-same (layoutOf p) (tilesOf p) p ts (λ k. flagged id (g k)) (λ k. flagged id (g′ k))
+    (λ k h. let k< = in-touched t k h .0 in ap (flagged id) (says-once (s k k<) (s′ k k<))) in
+    (cc, cc)
 
 pub bin-one-outcome : {p : List ℕ} {shape : Shape} {id : ℕ} {a b : Binned} {q r : List ℕ} → BinSays p shape id a q → BinSays p shape id b r → (a ≡ b) × (q ≡ r)
 bin-one-outcome (BinSays.damaged n e f) (BinSays.damaged n′ e′ f′) = (cc, cc)
@@ -162,21 +176,25 @@ refused-or-in-order (RefusedWith.bad-screen n e) o = n (o .screen)
 refused-or-in-order (RefusedWith.no-tile s t e) o = omega (arith, o .tile)
 refused-or-in-order (RefusedWith.out-of-range s t n e) o = n (o .in-range)
 
--- one question has one answer
-says-one : {P : Type 0} {r s : Bool} → Says r P → Says s P → r ≡ s
-says-one {r = true} {s = true} h k = refl
-says-one {r = true} {s = false} h k = absurd (k .no refl (h .yes refl))
-says-one {r = false} {s = true} h k = absurd (h .no refl (k .yes refl))
-says-one {r = false} {s = false} h k = refl
+-- one question has one answer, where P allows one only
+answer-one-outcome : {P : Cover → Type 0} {d : Screen} {t : ℕ} {shape : Shape} {a b : Answered}
+    → (InOrder d t shape → (r s : Cover) → P r → P s → r ≡ s) → AnswerSays P d t shape a → AnswerSays P d t shape b → a ≡ b
+answer-one-outcome one (AnswerSays.refused n c e) (AnswerSays.refused n′ c′ e′) = let u = refused-with-one c c′ in cc
+answer-one-outcome one (AnswerSays.refused n c e) (AnswerSays.done o′ r′ s′ e′) = absurd (refused-or-in-order c o′)
+answer-one-outcome one (AnswerSays.done o r s e) (AnswerSays.refused n′ c′ e′) = absurd (refused-or-in-order c′ o)
+answer-one-outcome one (AnswerSays.done o r s e) (AnswerSays.done o′ r′ s′ e′) = let u = one o r r′ s s′ in cc
 
-touch-one-outcome : {P : Type 0} {d : Screen} {t : ℕ} {shape : Shape} {a b : Answered} → TouchSays P d t shape a → TouchSays P d t shape b → a ≡ b
-touch-one-outcome (TouchSays.refused n c e) (TouchSays.refused n′ c′ e′) = let u = refused-with-one c c′ in cc
-touch-one-outcome (TouchSays.refused n c e) (TouchSays.done o′ r′ s′ e′) = absurd (refused-or-in-order c o′)
-touch-one-outcome (TouchSays.done o r s e) (TouchSays.refused n′ c′ e′) = absurd (refused-or-in-order c′ o)
-touch-one-outcome (TouchSays.done o r s e) (TouchSays.done o′ r′ s′ e′) = let u = says-one s s′ in cc
+one-box : (shape : Shape) (q : Rectangle) (r s : Cover) → BoxCoverSays r shape q → BoxCoverSays s shape q → r ≡ s
+one-box shape q Apart Apart h k = refl
+one-box shape q Apart Partly h k = absurd (h k)
+one-box shape q Apart Wholly h k = absurd k
+one-box shape q Partly Apart h k = absurd (k h)
+one-box shape q Partly Partly h k = refl
+one-box shape q Partly Wholly h k = absurd k
+one-box shape q Wholly s h k = absurd h
 
 pub box-one-outcome : {d : Screen} {t : ℕ} {shape : Shape} {a b : Answered} → BoxSays d t shape a → BoxSays d t shape b → a ≡ b
-box-one-outcome = touch-one-outcome
+box-one-outcome {d} {t} {shape} = answer-one-outcome (λ o r s h k. one-box shape (rectangle d t) r s h k)
 
 pub corner-one-outcome : {d : Screen} {t : ℕ} {shape : Shape} {a b : Answered} → CornerSays d t shape a → CornerSays d t shape b → a ≡ b
-corner-one-outcome = touch-one-outcome
+corner-one-outcome {d} {t} {shape} = answer-one-outcome (λ o r s h k. one-cover shape (tile-proper d (o .screen) t (o .tile)) r s h k)

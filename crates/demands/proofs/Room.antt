@@ -2,20 +2,22 @@
 -- admits one outcome only.
 use mathlib.Core.Path.{_≡_, refl, sym, ap, ap₂, subst, _∙_}
 use mathlib.Core.Logic.{_↔_}
+use mathlib.Core.Bool.{Bool}
 use mathlib.Core.List.{List, [], _∷_}
 use Prim.Native.Nat.{ℕ, _≤_, _<_}
 use native.Mathlib.Omega.{arith}
 use lib.ListN.{length}
+use Rattle.numbers.specs.Flag.{flagged}
 use Rattle.screen.specs.declared.Screen.{Screen}
 use Rattle.screen.specs.Screen.{Allowed, tiles}
 use Rattle.shape.specs.declared.Shape.{Shape}
 use Rattle.snap.specs.declared.PixelShape.{PixelShape}
-use Rattle.walk.specs.Touched.{TouchedTiles}
-use Rattle.pool.specs.Words.{Layout, Known, edition, layoutOf, room}
+use Rattle.walk.specs.Touched.{TouchedTiles, FlagsOf}
+use Rattle.pool.specs.Words.{Layout, Known, idLimit, layoutOf, room}
 use Rattle.pool.specs.Sound.{Sound, screenOf, tilesOf, blocksOf}
 use Rattle.pool.specs.Lists.{listOf}
 use Rattle.pool.specs.Opening.{opening, OpenSays}
-use Rattle.pool.proofs.Editions.{layout-known, layout-fair, known-fair, known-limit, opened-layout, keeps-layout}
+use Rattle.pool.proofs.Editions.{layout-known, layout-fair, known-fair, opened-layout, keeps-layout}
 use Rattle.pool.proofs.Lists.{listOf-shows}
 use Rattle.pool.proofs.Header.{Keeps, keeps-tiles, keeps-blocks}
 use Rattle.pool.proofs.Opening.{header-fits, opening-length, opening-tiles, opening-blocks, opening-opened}
@@ -33,7 +35,7 @@ use Rattle.calls.specs.declared.Found.{Found}
 use Rattle.calls.specs.declared.HighWater.{HighWater}
 use Rattle.calls.specs.Tables.{AuditSays, PlaceSays, BinSays, BinPixelsSays, ReadSays, HighWaterSays, ReleaseSays, listIn, freeIn}
 use Rattle.calls.proofs.Placing.{touched-distinct}
-use Rattle.calls.proofs.Keeping.{bin-appends}
+use Rattle.calls.proofs.Keeping.{bin-appends, entry-in-range}
 use Rattle.demands.specs.History.{Entry, binned, binned-pixels, found, released, Step, Run}
 use Rattle.demands.specs.Room.{roomOf, SameRoom, PastTheRoom, PastTheRoomAudit, PastTheRoomHighWater, PastTheRoomOpen}
 use Rattle.demands.proofs.OneOutcome.{open-one-outcome, audit-one-outcome, high-water-one-outcome}
@@ -86,8 +88,11 @@ module _ {p w : List ℕ} (S : SameRoom p w) where
   need-same : {ts : List ℕ} → Distinct (tilesOf p) ts → need (layoutOf w) w ts ≡ need (layoutOf p) p ts
   need-same {ts} D = rw same (need-kept (layoutOf p) p w ts (λ u h. tile-agrees (agree S) u 0 (D .below u h) (omega (arith, layout-fair p .tile>))))
 
+  screen-same : screenOf w ≡ screenOf p
+  screen-same = agree-screen (layout-fair p) (agree S)
+
   touched-same : {shape : Shape} {ts : List ℕ} → TouchedTiles (screenOf p) shape ts → TouchedTiles (screenOf w) shape ts
-  touched-same {shape} {ts} T = subst (λ (d : Screen). TouchedTiles d shape ts) (sym (agree-screen (layout-fair p) (agree S))) T
+  touched-same {shape} {ts} T = subst (λ (d : Screen). TouchedTiles d shape ts) (sym screen-same) T
 
   -- where the first slice is left as it was, so is the second
   unchanged : {q : List ℕ} (Says : List ℕ → Type 0) → q ≡ p → Says w → Follows Says q
@@ -117,13 +122,14 @@ module _ {p w : List ℕ} (S : SameRoom p w) where
     kept-same : {q v : List ℕ} → Keeps (layoutOf p) p q → Together (layoutOf p) (tilesOf p) (blocksOf p) q v → SameRoom q v
     kept-same K G = same-in (keeps-layout (layout-known p) (P .opened) K) (keeps-tiles (layout-fair p) K) (keeps-blocks (layout-fair p) K) G
 
-    appended-same : {shape : Shape} {ts : List ℕ} (id : ℕ) → id < edition .limit → TouchedTiles (screenOf p) shape ts → need (layoutOf p) p ts ≤ freeIn p
-        → SameRoom (appendAll (layoutOf p) (tilesOf p) p ts id) (appendAll (layoutOf w) (tilesOf w) w ts id)
-    appended-same {shape} {ts} id i T l =
+    appended-same : {shape : Shape} {ts : List ℕ} (id : ℕ) → id < idLimit → TouchedTiles (screenOf p) shape ts → need (layoutOf p) p ts ≤ freeIn p
+        → (flag : ℕ → Bool)
+        → SameRoom (appendAll (layoutOf p) (tilesOf p) p ts (λ t. flagged id (flag t))) (appendAll (layoutOf w) (tilesOf w) w ts (λ t. flagged id (flag t)))
+    appended-same {shape} {ts} id i T l flag =
         let D = touched-distinct T in
         rw (same, tiles-same)
-        (kept-same (kept-keeps (bin-appends P id i T l .kept))
-        (append-all-together (layout-fair p) id (omega (arith, known-limit (layout-known p))) ts together (P .shows) D
+        (kept-same (kept-keeps (bin-appends P id i T l flag .kept))
+        (append-all-together (layout-fair p) (λ t. flagged id (flag t)) (λ t. entry-in-range (layout-known p) i (flag t)) ts together (P .shows) D
         (omega (arith, need-shows (P .shows) ts (D .below), P .shows .count))))
 
     released-same : (t : ℕ) → t < tilesOf p → SameRoom (release (layoutOf p) (tilesOf p) p t) (release (layoutOf w) (tilesOf w) w t)
@@ -131,13 +137,16 @@ module _ {p w : List ℕ} (S : SameRoom p w) where
         rw (same, tiles-same)
         (kept-same (kept-keeps (release-releases (layout-fair p) P t ht .kept)) (release-together (layout-fair p) together (P .shows) t ht))
 
-  place-follows : {shape : Shape} {id : ℕ} {a : Binned} {q : List ℕ} → Sound (layoutOf p) p → id < edition .limit → PlaceSays p shape id a q
+  place-follows : {shape : Shape} {id : ℕ} {a : Binned} {q : List ℕ} → Sound (layoutOf p) p → id < idLimit → PlaceSays p shape id a q
       → Follows (λ v. PlaceSays w shape id a v) q
   place-follows P i (PlaceSays.no-room ts T l e f) =
       unchanged _ f (PlaceSays.no-room ts (touched-same T) (omega (arith, need-same (touched-distinct T), free-same)) e refl)
-  place-follows {id = id} P i (PlaceSays.done ts T l e f) =
-      let needs = need-same (touched-distinct T) in
-      (appendAll (layoutOf w) (tilesOf w) w ts id, PlaceSays.done ts (touched-same T) (omega (arith, free-same)) (rw needs e) refl, rw f (appended-same P id i T l))
+  place-follows {shape} {id} P i (PlaceSays.done ts T l flag F e f) =
+      let needs = need-same (touched-distinct T) in (
+        appendAll (layoutOf w) (tilesOf w) w ts (λ t. flagged id (flag t)),
+        PlaceSays.done ts (touched-same T) (omega (arith, free-same)) flag (subst (λ (d : Screen). FlagsOf d shape flag) (sym screen-same) F) (rw needs e) refl,
+        rw f (appended-same P id i T l flag),
+      )
 
   pub bin-follows : {shape : Shape} {id : ℕ} {a : Binned} {q : List ℕ} → BinSays p shape id a q → Follows (λ v. BinSays w shape id a v) q
   bin-follows (BinSays.damaged n e f) = unchanged _ f (BinSays.damaged (unsound n) e refl)

@@ -7,6 +7,7 @@ use Prim.Native.Nat.{ℕ, _+_, _≤_, _<_}
 use native.Mathlib.Omega.{arith}
 use lib.ListN.{length}
 use Rattle.numbers.specs.Ceil.{ceil}
+use Rattle.numbers.specs.Flag.{flagged}
 use Rattle.numbers.specs.Sum.{sumTo}
 use Rattle.numbers.proofs.Ceil.{lt-or-ge, ceil≤}
 use Rattle.numbers.proofs.Sum.{sumTo≤}
@@ -14,7 +15,8 @@ use Rattle.screen.specs.declared.Screen.{Screen}
 use Rattle.screen.specs.Screen.{tiles}
 use Rattle.shape.specs.declared.Shape.{Shape}
 use Rattle.walk.specs.Touched.{TouchedTiles}
-use Rattle.pool.specs.Words.{Layout, Known, edition, layoutOf}
+use Rattle.walk.proofs.Exists.{flags-exist}
+use Rattle.pool.specs.Words.{Layout, Known, idLimit, layoutOf}
 use Rattle.pool.specs.State.{State, tileOf}
 use Rattle.pool.specs.Sound.{Sound, screenOf, tilesOf, blocksOf}
 use Rattle.pool.proofs.Editions.{known-fair, layout-fair}
@@ -51,19 +53,20 @@ release-not-8 (ReleaseSays.done S h e f) z = absurd (omega (arith, ap (λ (b : R
 
 module _ {L : Layout} (known : Known L) {n : ℕ} {p w : List ℕ} {s : State} (W : Wider L n p w s) where
   -- the larger pool refuses the shape too, or is left with fewer than n free blocks
-  place-tight : (shape : Shape) (id : ℕ) (ts : List ℕ) → id < edition .limit → TouchedTiles (screenOf p) shape ts → freeIn p < need (layoutOf p) p ts
+  place-tight : (shape : Shape) (id : ℕ) (ts : List ℕ) → id < idLimit → TouchedTiles (screenOf p) shape ts → freeIn p < need (layoutOf p) p ts
       → (b : Binned) × (v : List ℕ) × PlaceSays w shape id b v × ((b .number ≡ 8) ⊎ (freeIn v < n))
   place-tight shape id ts i T l =
       let T′ : TouchedTiles (screenOf w) shape ts = subst (λ (d : Screen). TouchedTiles d shape ts) (sym (W .screens)) T in
       let same = need-same known W ts (touched-distinct T) in
       let more = wider-free (known-fair known) W in
+      let flags = flags-exist (screenOf w) (W .opened′ .screen) shape in
       ⊎-elim
       (λ (lt : freeIn w < need (layoutOf w) w ts). (refusedBin 8, w, PlaceSays.no-room ts T′ lt refl refl, inl refl))
       (λ (ge : need (layoutOf w) w ts ≤ freeIn w). (
         record { number = 0; tiles = length ts; blocks = need (layoutOf w) w ts },
-        appendAll (layoutOf w) (tilesOf w) w ts id,
-        PlaceSays.done ts T′ ge refl refl,
-        inr (omega (arith, bin-appends (alike-sound′ known W) id i T′ ge .taken)),
+        appendAll (layoutOf w) (tilesOf w) w ts (λ t. flagged id (flags .0 t)),
+        PlaceSays.done ts T′ ge (flags .0) (flags .1) refl refl,
+        inr (omega (arith, bin-appends (alike-sound′ known W) id i T′ ge (flags .0) .taken)),
       ))
       (lt-or-ge (freeIn w) (need (layoutOf w) w ts))
 

@@ -5,13 +5,18 @@ use mathlib.Core.List.{List}
 use Prim.Native.Nat.{ℕ, _<_}
 use native.Mathlib.Nat.{eq-zero-or-pos}
 use Rattle.screen.specs.declared.Screen.{Screen}
-use Rattle.screen.specs.Screen.{tiles}
-use Rattle.screen.specs.Rectangle.{rectangle}
+use Rattle.screen.specs.Screen.{Allowed, tiles}
+use Rattle.screen.specs.Rectangle.{rectangle, Proper}
+use Rattle.screen.proofs.Laws.{rectangle-proper, column<, row<}
 use Rattle.shape.specs.declared.Shape.{Shape}
 use Rattle.touch.specs.Touches.{Touches}
 use Rattle.walk.specs.Touched.{TouchedTiles}
 use Rattle.pool.specs.State.{times}
 use Rattle.lists.proofs.Named.{place-named, named-place}
+
+-- the rectangle of a tile of the screen
+pub tile-proper : (d : Screen) → Allowed d → (t : ℕ) → t < tiles d → Proper (rectangle d t)
+tile-proper d a t h = rectangle-proper d a (column< d a t) (row< d a t h)
 
 module _ {d : Screen} {shape : Shape} {ts : List ℕ} (T : TouchedTiles d shape ts) where
   pub in-touched : (t : ℕ) → 0 < times t ts → (t < tiles d) × Touches shape (rectangle d t)

@@ -8,6 +8,7 @@ use mathlib.Core.List.{List, [], _∷_}
 use Prim.Native.Nat.{ℕ, _≤_}
 use lib.ListN.{length, getD}
 use Rattle.screen.specs.declared.Screen.{Screen}
+use Rattle.touch.specs.declared.Cover.the-variants.{Apart}
 use Rattle.screen.specs.Screen.{tiles}
 use Rattle.pool.specs.Words.{Layout, layoutOf, room}
 use Rattle.pool.specs.Sound.{tilesOf, blocksOf}
@@ -30,7 +31,7 @@ refusals (released tile a) = 4 ∷ 9 ∷ []
 abbrev pub RestZero : Entry → Type 0
 RestZero (binned shape id a) = (a .tiles ≡ 0) × (a .blocks ≡ 0)
 RestZero (binned-pixels shape id a) = (a .tiles ≡ 0) × (a .blocks ≡ 0)
-RestZero (found tile place a) = a .id ≡ 0
+RestZero (found tile place a) = (a .id ≡ 0) × (a .whole ≡ false)
 RestZero (released tile a) = a .blocks ≡ 0
 
 -- q has as many words as p, and the same from `end` on
@@ -59,7 +60,7 @@ pub record Demand1HighWater (a : HighWater) : Type 0 where
   pub number-is : (a .number ≡ 0) ⊎ Among (a .number) (4 ∷ 9 ∷ [])
   pub refused : a .number ≢ 0 → a .entries ≡ 0
 
--- of a question about touching, which is lent no words
+-- of a question how a shape covers a tile, which is lent no words
 pub record Demand1Question (a : Answered) : Type 0 where
   pub number-is : (a .number ≡ 0) ⊎ Among (a .number) (1 ∷ 9 ∷ 7 ∷ [])
-  pub refused : a .number ≢ 0 → a .touches ≡ false
+  pub refused : a .number ≢ 0 → a .cover ≡ Apart

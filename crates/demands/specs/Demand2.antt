@@ -1,19 +1,23 @@
 -- Demand 2: with which number a bin and a release of a sound pool are answered, and what an accepted one does to it.
 use mathlib.Core.Path.{_≡_}
 use mathlib.Core.Logic.{_≢_, _⊎_, _↔_}
+use mathlib.Core.Bool.{true, false}
 use mathlib.Core.List.{List, [], _∷_, _++_}
 use Prim.Native.Nat.{ℕ, _+_, _≤_, _<_, max}
 use lib.ListN.{length}
 use Rattle.numbers.specs.Ceil.{ceil}
+use Rattle.numbers.specs.Flag.{flagged}
 use Rattle.screen.specs.Rectangle.{rectangle}
 use Rattle.shape.specs.declared.Shape.{Shape}
 use Rattle.shape.specs.Shape.{InRange}
-use Rattle.touch.specs.Touches.{Touches}
+use Rattle.touch.specs.declared.Cover.{Cover}
+use Rattle.touch.specs.declared.Cover.the-variants.{Apart, Partly, Wholly}
+use Rattle.touch.specs.Cover.{CoverSays}
 use Rattle.walk.specs.Touched.{TouchedTiles}
 use Rattle.snap.specs.declared.PixelShape.{PixelShape}
 use Rattle.snap.specs.declared.SnappedShape.{SnappedShape}
 use Rattle.snap.specs.Shapes.{shapeOf}
-use Rattle.pool.specs.Words.{edition, layoutOf, blockWord}
+use Rattle.pool.specs.Words.{edition, idLimit, layoutOf, blockWord}
 use Rattle.pool.specs.State.{tileOf, times}
 use Rattle.pool.specs.Sound.{Sound, screenOf, tilesOf, blocksOf}
 use Rattle.lists.specs.Appending.{need}
@@ -32,7 +36,7 @@ pub record StaysSound (p q : List ℕ) : Type 0 where
 
 -- no cause before 8 applies; ts are the tiles that the shape touches
 pub record Binnable (p : List ℕ) (shape : Shape) (id : ℕ) : Type 0 where
-  pub id< : id < edition .limit
+  pub id< : id < idLimit
   pub in-range : InRange shape
   pub ts : List ℕ
   pub touched : TouchedTiles (screenOf p) shape ts
@@ -44,10 +48,16 @@ NoRoom p shape id = (o : Binnable p shape id) × (freeIn p < need (layoutOf p) p
 abbrev pub HasRoom : (p : List ℕ) → Shape → (id : ℕ) → Type 0
 HasRoom p shape id = (o : Binnable p shape id) × (need (layoutOf p) p (o .ts) ≤ freeIn p)
 
--- an accepted bin: the id stands once more at the end of the list of each tile that the shape touches, and of no other
+-- what the list of a tile gains of an id, as the shape covers the tile: nothing, the id, or the id with its flag
+abbrev pub gained : Cover → (id : ℕ) → List ℕ
+gained Apart id = []
+gained Partly id = flagged id false ∷ []
+gained Wholly id = flagged id true ∷ []
+
+-- an accepted bin: the id stands once more at the end of the list of each tile that the shape touches, flagged exactly if the shape covers the tile wholly,
+-- and of no other
 pub record Listed (p : List ℕ) (shape : Shape) (id : ℕ) (a : Binned) (q : List ℕ) : Type 0 where
-  pub touched : (t : ℕ) → t < tilesOf p → Touches shape (rectangle (screenOf p) t) → listIn q t ≡ listIn p t ++ (id ∷ [])
-  pub others : (t : ℕ) → t < tilesOf p → (Touches shape (rectangle (screenOf p) t) → ⊥) → listIn q t ≡ listIn p t
+  pub lists : (t : ℕ) → t < tilesOf p → (r : Cover) → CoverSays r shape (rectangle (screenOf p) t) → listIn q t ≡ listIn p t ++ gained r id
   -- each mark is what it was, or the length of the list where that is greater
   pub marks : (t : ℕ) → t < tilesOf p → markIn q t ≡ max (markIn p t) (length (listIn q t))
   -- the counts are those of the touched tiles, and of the blocks that are free no more
@@ -57,8 +67,8 @@ pub record Listed (p : List ℕ) (shape : Shape) (id : ℕ) (a : Binned) (q : Li
 -- each number is given exactly where its cause applies and no earlier one; 4 is never given, as the pool is sound
 pub record Demand2Bin (p : List ℕ) (shape : Shape) (id : ℕ) (a : Binned) (q : List ℕ) : Type 0 where
   pub not-damaged : a .number ≢ 4
-  pub bad-id : (a .number ≡ 5) ↔ (edition .limit ≤ id)
-  pub out-of-range : (a .number ≡ 7) ↔ ((id < edition .limit) × (InRange shape → ⊥))
+  pub bad-id : (a .number ≡ 5) ↔ (idLimit ≤ id)
+  pub out-of-range : (a .number ≡ 7) ↔ ((id < idLimit) × (InRange shape → ⊥))
   pub no-room : (a .number ≡ 8) ↔ NoRoom p shape id
   pub done : (a .number ≡ 0) ↔ HasRoom p shape id
   pub listed : a .number ≡ 0 → Listed p shape id a q
@@ -67,8 +77,8 @@ pub record Demand2Bin (p : List ℕ) (shape : Shape) (id : ℕ) (a : Binned) (q 
 -- the same of a shape in pixels, by the shape in units that it is
 pub record Demand2Pixels (p : List ℕ) (shape : PixelShape) (id : ℕ) (a : Binned) (q : List ℕ) : Type 0 where
   pub not-damaged : a .number ≢ 4
-  pub bad-id : (a .number ≡ 5) ↔ (edition .limit ≤ id)
-  pub offence : (n : ℕ) → (n ≡ 6) ⊎ (n ≡ 7) → (a .number ≡ n) ↔ ((id < edition .limit) × (shapeOf shape ≡ SnappedShape.Refused n))
+  pub bad-id : (a .number ≡ 5) ↔ (idLimit ≤ id)
+  pub offence : (n : ℕ) → (n ≡ 6) ⊎ (n ≡ 7) → (a .number ≡ n) ↔ ((id < idLimit) × (shapeOf shape ≡ SnappedShape.Refused n))
   pub no-room : (a .number ≡ 8) ↔ ((whole : Shape) × (shapeOf shape ≡ SnappedShape.Whole whole) × NoRoom p whole id)
   pub done : (a .number ≡ 0) ↔ ((whole : Shape) × (shapeOf shape ≡ SnappedShape.Whole whole) × HasRoom p whole id)
   pub listed : a .number ≡ 0 → (whole : Shape) × (shapeOf shape ≡ SnappedShape.Whole whole) × Listed p whole id a q

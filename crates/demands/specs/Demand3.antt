@@ -9,13 +9,15 @@ use Rattle.screen.specs.declared.Screen.{Screen}
 use Rattle.screen.specs.Screen.{tiles}
 use Rattle.screen.specs.Rectangle.{rectangle}
 use Rattle.shape.specs.declared.Shape.{Shape}
-use Rattle.touch.specs.Touches.{Touches}
+use Rattle.touch.specs.declared.Cover.{Cover}
+use Rattle.touch.specs.Cover.{CoverSays}
 use Rattle.snap.specs.declared.SnappedShape.{SnappedShape}
 use Rattle.snap.specs.Shapes.{shapeOf}
 use Rattle.pool.specs.Words.{Layout, edition, blockWord}
 use Rattle.pool.specs.Opening.{OpenSays}
 use Rattle.calls.specs.Tables.{listIn, markIn, freeIn}
 use Rattle.demands.specs.History.{Entry, binned, binned-pixels, found, released, Run, callsOf, lessRoom}
+use Rattle.demands.specs.Demand2.{gained}
 
 -- what a call with its answer does to the lists: an accepted shape goes to the tiles that it touches, an accepted release empties one
 pub data Effect : Type 0 where
@@ -38,12 +40,12 @@ effectOf (released tile a) = accepted (a .number) (empties tile)
 
 -- the list xs of tile t becomes ys
 abbrev pub Becomes : Screen → (t : ℕ) → Effect → (xs ys : List ℕ) → Type 0
-Becomes d t (appends shape id) xs ys =
-    (Touches shape (rectangle d t) × (ys ≡ xs ++ (id ∷ []))) ⊎ ((Touches shape (rectangle d t) → ⊥) × (ys ≡ xs))
+Becomes d t (appends shape id) xs ys = (r : Cover) × CoverSays r shape (rectangle d t) × (ys ≡ xs ++ gained r id)
 Becomes d t (empties u) xs ys = ((u ≡ t) × (ys ≡ [])) ⊎ ((u ≢ t) × (ys ≡ xs))
 Becomes d t nothing xs ys = ys ≡ xs
 
--- from the history alone: xs are the ids of the accepted shapes that touch tile t since its last release or the opening, in order
+-- from the history alone: xs are the ids of the accepted shapes that touch tile t since its last release or the opening, in order, each flagged exactly if its
+-- shape covers the tile wholly
 abbrev pub ListedBy : Screen → (t : ℕ) → List Entry → (xs : List ℕ) → Type 0
 ListedBy d t [] xs = xs ≡ []
 ListedBy d t (e ∷ h) xs = (before : List ℕ) × ListedBy d t h before × Becomes d t (effectOf e) before xs

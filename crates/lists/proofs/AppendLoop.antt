@@ -2,7 +2,7 @@
 use mathlib.Core.Path.{_≡_, refl, sym, ap, ap₂, _∙_, subst}
 use mathlib.Core.Logic.{_≢_}
 use mathlib.Core.List.{List, [], _∷_}
-use Prim.Native.Nat.{ℕ, _+_, _%_, _≤_, _<_}
+use Prim.Native.Nat.{ℕ, suc, _+_, _%_, _≤_, _<_}
 use native.Mathlib.Numerals.{add-one}
 use native.Mathlib.Omega.{arith}
 use borrow.Author.Tests.{eq-eqb, ne-eqb}
@@ -109,6 +109,11 @@ module _ {L : Layout} {p : List ℕ} {T : ℕ} {w : ℕ} {rest : List ℕ} {id :
 pub appending-end : {L : Layout} {p : List ℕ} {T id : ℕ} {e : List ℕ} → Appending L p T [] id e → p ≡ e
 unfolding appendNamed
 appending-end G = G .ends
+
+pub gained : (entry : ℕ → ℕ) (id : ℕ) (named : List ℕ)
+    → ((i : ℕ) → i < length named → entry (plain (getD named i 0)) ≡ flagged id (isFlagged (getD named i 0))) → Gained entry id named
+gained entry id [] h = tt
+gained entry id (w ∷ ws) h = (h 0 (omega arith), gained entry id ws (λ i l. h (suc i) (omega arith)))
 
 -- by the numbers of the tiles, where `entry` tells what each gains
 pub named-appends : (L : Layout) (T : ℕ) (p : List ℕ) (entry : ℕ → ℕ) (id : ℕ) (named : List ℕ) → Gained entry id named

@@ -11,7 +11,7 @@ use Rattle.pool.specs.Words.{Layout, Fair, room, headerWord}
 use Rattle.pool.specs.State.{Chained, State, tileOf, times}
 use Rattle.pool.specs.Sound.{Shows, Sound, tilesOf, blocksOf}
 use Rattle.pool.specs.Lists.{listOf}
-use Rattle.pool.proofs.Times.{times-head, times-differ}
+use Rattle.pool.proofs.Times.{times-head, times-tail, times-differ}
 use Rattle.pool.proofs.Lists.{listOf-shows}
 use Rattle.pool.proofs.Header.{Keeps, keeps-tiles, keeps-blocks, keeps-opened}
 use Rattle.lists.specs.Appending.{multiple, need, append, appendAll, Distinct}
@@ -109,6 +109,15 @@ append-all-appends {L} {p} A S ts entry D in-range enough =
 pub append-all-keeps-sound : {L : Layout} {p : List ℕ} → Fair L → Sound L p → (ts : List ℕ) (entry : ℕ → ℕ) → Distinct (tilesOf p) ts → ((t : ℕ) → entry t < L .limit)
     → need L p ts ≤ headerWord p 4 → Sound L (appendAll L (tilesOf p) p ts entry)
 append-all-keeps-sound A S ts entry D in-range enough = append-all-appends A S ts entry D in-range enough .sound
+
+-- what is appended is told by the entries of those tiles alone
+pub append-all-same : (L : Layout) (T : ℕ) (p ts : List ℕ) (entry entry′ : ℕ → ℕ) → ((t : ℕ) → 0 < times t ts → entry t ≡ entry′ t)
+    → appendAll L T p ts entry ≡ appendAll L T p ts entry′
+unfolding appendAll
+append-all-same L T p [] entry entry′ same = refl
+append-all-same L T p (t ∷ ts) entry entry′ same =
+    ap (λ (n : ℕ). appendAll L T (append L T p t n) ts entry) (same t (times-head t ts))
+    ∙ append-all-same L T (append L T p t (entry′ t)) ts entry entry′ (λ u h. same u (times-tail u t ts h))
 
 -- for one tile
 pub append-keeps-sound : {L : Layout} {p : List ℕ} → Fair L → Sound L p → (t entry : ℕ) → t < tilesOf p → entry < L .limit → need L p (t ∷ []) ≤ headerWord p 4

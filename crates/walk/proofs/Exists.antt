@@ -13,7 +13,9 @@ use Rattle.screen.specs.Screen.{Allowed, tiles}
 use Rattle.screen.specs.Rectangle.{rectangle}
 use Rattle.screen.proofs.Laws.{rectangle-proper, rectangle-has-area, column<, row<}
 use Rattle.shape.specs.declared.Shape.{Shape}
+use Rattle.touch.specs.declared.Cover.{Cover}
 use Rattle.touch.specs.Touches.{Touches}
+use Rattle.touch.specs.Cover.{Wholly, CoverSays}
 use Rattle.touch.proofs.Answers.{corner-says-touching, enclosed, enclosed-says-wholly}
 use Rattle.walk.specs.Touched.{TouchedTiles, FlagsOf}
 use Rattle.walk.specs.Lists.{IsTouched, Below, Lists}
@@ -78,3 +80,13 @@ module _ (d : Screen) (a : Allowed d) (shape : Shape) where
     (λ t. enclosed shape (rectangle d t)),
     λ t h. enclosed-says-wholly shape (rectangle d t) (rectangle-has-area d a (column< d a t) (row< d a t h)),
   )
+
+  -- each tile is covered in one of the three ways
+  pub cover-exists : (t : ℕ) → t < tiles d → (r : Cover) × CoverSays r shape (rectangle d t)
+  cover-exists t h = go (decided (flags-exist .1 t h)) (touched-decided t h)
+    where
+      go : Wholly shape (rectangle d t) ⊎ (Wholly shape (rectangle d t) → ⊥) → IsTouched d shape t ⊎ (IsTouched d shape t → ⊥)
+          → (r : Cover) × CoverSays r shape (rectangle d t)
+      go (inl w) p = (Cover.Wholly, w)
+      go (inr n) (inl p) = (Cover.Partly, (p .1, n))
+      go (inr n) (inr o) = (Cover.Apart, λ k. o (h, k))

@@ -7,12 +7,12 @@ use lib.Signed.{_≤ℤ_, _<ℤ_}
 use mir.Syntax.{w32}
 use Rattle.numbers.specs.Diff.{up}
 use Rattle.numbers.proofs.Is.{is-arg, is-self, is-cast, is-nat, lt-taken, lt-left}
-use Rattle.pool.specs.Words.{edition}
+use Rattle.pool.specs.Words.{idLimit}
 use Rattle.calls.specs.BinList.{idFrom}
 use Rattle.calls.proofs.id_from.Statement.{statement}
 use Rattle.calls.proofs.id_from.Tie as tie
 
-below : (z : ℤ) → z <ℤ pos 0 → edition .limit ≡ idFrom z
+below : (z : ℤ) → z <ℤ pos 0 → idLimit ≡ idFrom z
 below (pos n) h = absurd (omega (arith, ltb→lt n 0 (h .lt)))
 below (negsuc n) h = refl
 

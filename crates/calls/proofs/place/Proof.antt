@@ -4,12 +4,17 @@ use Prim.Native.Nat.{ℕ}
 use native.Mathlib.Omega.{arith}
 use lib.ListN.{take}
 use borrow.Author.Needs.{needs}
-use Rattle.pool.specs.Words.{Layout}
+use Rattle.numbers.specs.Flag.{flagged, plains}
+use Rattle.numbers.proofs.Flag.{flagged<}
+use Rattle.walk.proofs.Exists.{flags-exist}
+use Rattle.pool.specs.Words.{Layout, layoutOf}
+use Rattle.pool.specs.Sound.{screenOf, tilesOf}
 use Rattle.pool.specs.Editions.{layoutFor}
-use Rattle.lists.specs.Appending.{need, appendAll}
+use Rattle.lists.specs.Appending.{need, appendNamed}
+use Rattle.lists.proofs.AppendLoop.{named-appends}
 use Rattle.calls.specs.Tables.{no-room, done}
 use Rattle.calls.proofs.Audits.{carried-sound, carried-sized}
-use Rattle.calls.proofs.Placing.{screen-allowed, touched-here, as-many, all-among}
+use Rattle.calls.proofs.Placing.{screen-allowed, touched-here, as-many, gains-by-flags, all-among}
 use Rattle.calls.proofs.place.Statement.{statement}
 use Rattle.calls.proofs.place.Tie as tie
 
@@ -48,7 +53,7 @@ returns c =
     let n = c .before .before .before .before .before in
     let w = n .before .before .before .before .before .before .before in
     let s = w .before .before .before .before in
-    let e = n .need .ensures ∙ ap₂ (λ (L : Layout) (k : ℕ). need L (s .args .pool .now) (take k (w .touched-tiles .last .1 .1 .0))) (s .pre .1 .layout) (n .before .wide2 .ensures) in
+    let e = n .need .ensures ∙ ap₂ (λ (L : Layout) (k : ℕ). need L (s .args .pool .now) (plains (take k (w .touched-tiles .last .1 .1 .0)))) (s .pre .1 .layout) (n .before .wide2 .ensures) in
     no-room _ (touched-here (s .pre .0) (s .pre .1) (w .touched-tiles .ensures)) (omega (arith, e, c .before .before .wide3 .ensures, c .before .before .before .free .ensures)) (c .refused-bin .ensures) refl
 
 wide-requires-4 : tie.Need-wide-requires-4
@@ -62,8 +67,8 @@ append-all-requires c κs =
     let a = all-among (s .pre .0) (s .pre .1) (w .touched-tiles .ensures) (s .pre .4) (n .before .before .before .before .wide .ensures) (c .wide4 .ensures) in
     let e =
     n .need .ensures
-    ∙ ap (λ (k : ℕ). need (layoutFor (s .args .header .layout)) (s .args .pool .now) (take k (w .touched-tiles .last .1 .1 .0))) (n .before .wide2 .ensures ∙ sym (c .wide4 .ensures)) in
-    (a .0, record { among = a .1; in-range = s .pre .3; enough = omega (arith, e, c .before .before .before .before .wide3 .ensures, c .before .before .before .before .before .free .ensures) })
+    ∙ ap (λ (k : ℕ). need (layoutFor (s .args .header .layout)) (s .args .pool .now) (plains (take k (w .touched-tiles .last .1 .1 .0)))) (n .before .wide2 .ensures ∙ sym (c .wide4 .ensures)) in
+    (a .0, record { among = a .1; in-range = flagged< (s .args .id) (s .pre .3); enough = omega (arith, e, c .before .before .before .before .wide3 .ensures, c .before .before .before .before .before .free .ensures) })
 
 narrow-requires : tie.Need-narrow-requires
 narrow-requires c κs = search needs
@@ -81,12 +86,16 @@ returns-2 c =
     let s = w .before .before .before .before in
     let p = s .args .pool .now in
     let new = w .touched-tiles .last .1 .1 .0 in
-    let e = n .need .ensures ∙ ap₂ (λ (L : Layout) (k : ℕ). need L p (take k new)) (s .pre .1 .layout) (n .before .wide2 .ensures) in
+    let e = n .need .ensures ∙ ap₂ (λ (L : Layout) (k : ℕ). need L p (plains (take k new))) (s .pre .1 .layout) (n .before .wide2 .ensures) in
     let t = n .before .before .before .before .wide .ensures ∙ s .pre .1 .tiles in
     let k = c .before .before .before .before .wide4 .ensures in
-    done (take (w .touched-tiles .result) new) (touched-here (s .pre .0) (s .pre .1) (w .touched-tiles .ensures)) (omega (arith, e, c .before .before .before .before .before .before .before .if1 .left, c .before .before .before .before .before .before .before .before .wide3 .ensures, c .before .before .before .before .before .before .before .before .before .free .ensures))
+    let flags = flags-exist (screenOf p) (s .pre .0 .opened .screen) (s .args .shape) in
+    done (plains (take (w .touched-tiles .result) new)) (touched-here (s .pre .0) (s .pre .1) (w .touched-tiles .ensures)) (omega (arith, e, c .before .before .before .before .before .before .before .if1 .left, c .before .before .before .before .before .before .before .before .wide3 .ensures, c .before .before .before .before .before .before .before .before .before .free .ensures))
+    (flags .0) (flags .1)
     (λ i. record { number = 0; tiles = sym (as-many (s .pre .0) (s .pre .1) (w .touched-tiles .ensures) (s .pre .4)) i; blocks = (c .narrow .ensures ∙ e) i })
-    (c .before .before .before .append-all .ensures ∙ (λ i. appendAll (s .pre .1 .layout i) (t i) p (take (k i) new) (s .args .id)))
+    (c .before .before .before .append-all .ensures ∙ (λ i. appendNamed (s .pre .1 .layout i) (t i) p (take (k i) new) (s .args .id))
+    ∙ named-appends (layoutOf p) (tilesOf p) p (λ u. flagged (s .args .id) (flags .0 u)) (s .args .id) (take (w .touched-tiles .result) new)
+    (gains-by-flags (s .pre .0) (s .pre .1) (w .touched-tiles .ensures) (s .pre .4) (s .args .id) (flags .0) (flags .1)))
 
 pub place-spec : {M : Type 1} → statement M
 place-spec =

@@ -7,6 +7,8 @@ use lib.IntN.{ℤ}
 use lib.Ieee.{Float}
 use Rattle.screen.specs.declared.Screen.{Screen}
 use Rattle.shape.specs.declared.Vertex.{Vertex}
+use Rattle.touch.specs.declared.Cover.{Cover}
+use Rattle.touch.specs.declared.Cover.the-variants.{Apart, Partly, Wholly}
 use Rattle.snap.specs.declared.PixelVertex.{PixelVertex}
 use Rattle.calls.specs.declared.Rounded.{Rounded}
 use Rattle.calls.specs.declared.Binned.{Binned}
@@ -35,8 +37,13 @@ binned number tiles blocks = record { number = number; tiles = tiles; blocks = b
 abbrev pub released : (number blocks : ℕ) → Released
 released number blocks = record { number = number; blocks = blocks }
 
-abbrev pub found : (number id : ℕ) → Found
-found number id = record { number = number; id = id }
+-- an answer with this number and id, whose yes is written as 1 and whose no as 0, is one that Says allows
+pub record ToldFound (Says : Found → Type 0) (number id whole : ℕ) : Type 0 where
+  pub answer : Found
+  pub says : Says answer
+  pub number-is : number ≡ answer .number
+  pub id-is : id ≡ answer .id
+  pub whole-is : whole ≡ cond (answer .whole) 1 0
 
 abbrev pub highWater : (number entries : ℕ) → HighWater
 highWater number entries = record { number = number; entries = entries }
@@ -56,9 +63,15 @@ totals shapes outOfRange boxTiles touchedTiles difference largest place =
 abbrev pub counted : (number : ℕ) (totals : Totals) → Counted
 counted number totals = record { number = number; totals = totals }
 
--- an answer with this number, whose yes is written as 1 and whose no as 0, is one that Says allows
-pub record Told (Says : Answered → Type 0) (number touches : ℕ) : Type 0 where
+-- how a cover is written
+abbrev pub coverNumber : Cover → ℕ
+coverNumber Apart = 0
+coverNumber Partly = 1
+coverNumber Wholly = 2
+
+-- an answer with this number and a cover that is written so is one that Says allows
+pub record Told (Says : Answered → Type 0) (number cover : ℕ) : Type 0 where
   pub answer : Answered
   pub says : Says answer
   pub number-is : number ≡ answer .number
-  pub touches-is : touches ≡ cond (answer .touches) 1 0
+  pub cover-is : cover ≡ coverNumber (answer .cover)

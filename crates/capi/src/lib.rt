@@ -6,6 +6,8 @@ use shape::Shape;
 use shape::Vertex;
 use snap::PixelShape;
 use snap::PixelVertex;
+use touch::Cover;
+ghost use mathlib.Core.Path.{_≡_};
 ghost use Rattle.pool.specs.Words.{edition, second};
 ghost use Rattle.pool.specs.Opening.{OpenSays};
 ghost use Rattle.shape.specs.declared.Shape.the-variants.{Point, Line, Triangle};
@@ -14,7 +16,7 @@ ghost use Rattle.calls.specs.BinList.{BinListSays};
 ghost use Rattle.calls.specs.Questions.{BoxSays, CornerSays};
 ghost use Rattle.calls.specs.Units.{UnitSays};
 ghost use Rattle.calls.specs.Overlaps.{OverlapsSays};
-ghost use Rattle.capi.specs.Faces.{screen, vertex, pixel, binned, released, found, highWater, rounded, totals, counted, Told};
+ghost use Rattle.capi.specs.Faces.{screen, vertex, pixel, binned, released, ToldFound, highWater, rounded, totals, counted, coverNumber, Told};
 
 // Opens a pool of the first edition: 0, or 1, 2, 3 in that order.
 #[no_mangle]
@@ -53,13 +55,20 @@ pub extern "C" fn flourscoop_audit(pool: &[u32]) -> u32
     calls::audit(pool)
 }
 
-// Reads the id at a place of a tile's list: 0, or 4, 9, 10 in that order.
+// Reads the id at a place of a tile's list, and whether the tile is wholly covered, 1 for yes: 0, or 4, 9, 10 in that order.
 #[no_mangle]
-pub extern "C" fn flourscoop_read(pool: &[u32], tile: u32, place: u32, id: &mut u32) -> u32
-    ensures { λ r. ⌜ ReadSays (now (pool .entry)) tile place (found r (now (id .exit))) ⌝ }
+pub extern "C" fn flourscoop_read(
+    pool: &[u32],
+    tile: u32,
+    place: u32,
+    id: &mut u32,
+    whole: &mut u32,
+) -> u32
+    ensures { λ r. ⌜ ToldFound (ReadSays (now (pool .entry)) tile place) r (now (id .exit)) (now (whole .exit)) ⌝ }
 {
     let answer = calls::read(pool, Tile(tile), place);
     *id = answer.id;
+    *whole = answer.whole as u32;
     answer.number
 }
 
@@ -109,21 +118,34 @@ fn bin_pixels(
     answer.number
 }
 
-// Whether a tile meets the bounding box of a shape.
-fn box_touches(screen: Screen, tile: u32, shape: Shape, touches: &mut u32) -> u32
-    ensures { λ r. ⌜ Told (BoxSays screen tile shape) r (now (touches .exit)) ⌝ }
+// 0 for apart, 1 for partly, 2 for wholly.
+fn cover_number(cover: Cover) -> u32
+    ensures { λ r. ⌜ r ≡ coverNumber cover ⌝ }
 {
-    let answer = calls::box_touches(screen, Tile(tile), shape);
-    *touches = answer.touches as u32;
+    match cover {
+        Cover::Apart => 0,
+        Cover::Partly => 1,
+        Cover::Wholly => 2,
+    }
+}
+
+// Whether a tile meets the bounding box of a shape.
+fn box_cover(screen: Screen, tile: u32, shape: Shape, cover: &mut u32) -> u32
+    ensures { λ r. ⌜ Told (BoxSays screen tile shape) r (now (cover .exit)) ⌝ }
+{
+    let answer = calls::box_cover(screen, Tile(tile), shape);
+    let told = answer.cover;
+    *cover = cover_number(told);
     answer.number
 }
 
-// Whether a shape touches a tile.
-fn corner_touches(screen: Screen, tile: u32, shape: Shape, touches: &mut u32) -> u32
-    ensures { λ r. ⌜ Told (CornerSays screen tile shape) r (now (touches .exit)) ⌝ }
+// How a shape covers a tile.
+fn corner_cover(screen: Screen, tile: u32, shape: Shape, cover: &mut u32) -> u32
+    ensures { λ r. ⌜ Told (CornerSays screen tile shape) r (now (cover .exit)) ⌝ }
 {
-    let answer = calls::corner_touches(screen, Tile(tile), shape);
-    *touches = answer.touches as u32;
+    let answer = calls::corner_cover(screen, Tile(tile), shape);
+    let told = answer.cover;
+    *cover = cover_number(told);
     answer.number
 }
 
@@ -290,15 +312,15 @@ pub extern "C" fn flourscoop_box_point(
     tile: u32,
     x1: i32,
     y1: i32,
-    touches: &mut u32,
+    cover: &mut u32,
 ) -> u32
-    ensures { λ r. ⌜ Told (BoxSays (screen width height s) tile (Point (vertex x1 y1))) r (now (touches .exit)) ⌝ }
+    ensures { λ r. ⌜ Told (BoxSays (screen width height s) tile (Point (vertex x1 y1))) r (now (cover .exit)) ⌝ }
 {
-    box_touches(
+    box_cover(
         Screen { width, height, s },
         tile,
         Shape::Point(Vertex { x: x1, y: y1 }),
-        touches,
+        cover,
     )
 }
 
@@ -313,15 +335,15 @@ pub extern "C" fn flourscoop_box_line(
     y1: i32,
     x2: i32,
     y2: i32,
-    touches: &mut u32,
+    cover: &mut u32,
 ) -> u32
-    ensures { λ r. ⌜ Told (BoxSays (screen width height s) tile (Line (vertex x1 y1) (vertex x2 y2))) r (now (touches .exit)) ⌝ }
+    ensures { λ r. ⌜ Told (BoxSays (screen width height s) tile (Line (vertex x1 y1) (vertex x2 y2))) r (now (cover .exit)) ⌝ }
 {
-    box_touches(
+    box_cover(
         Screen { width, height, s },
         tile,
         Shape::Line(Vertex { x: x1, y: y1 }, Vertex { x: x2, y: y2 }),
-        touches,
+        cover,
     )
 }
 
@@ -338,11 +360,11 @@ pub extern "C" fn flourscoop_box_triangle(
     y2: i32,
     x3: i32,
     y3: i32,
-    touches: &mut u32,
+    cover: &mut u32,
 ) -> u32
-    ensures { λ r. ⌜ Told (BoxSays (screen width height s) tile (Triangle (vertex x1 y1) (vertex x2 y2) (vertex x3 y3))) r (now (touches .exit)) ⌝ }
+    ensures { λ r. ⌜ Told (BoxSays (screen width height s) tile (Triangle (vertex x1 y1) (vertex x2 y2) (vertex x3 y3))) r (now (cover .exit)) ⌝ }
 {
-    box_touches(
+    box_cover(
         Screen { width, height, s },
         tile,
         Shape::Triangle(
@@ -350,11 +372,11 @@ pub extern "C" fn flourscoop_box_triangle(
             Vertex { x: x2, y: y2 },
             Vertex { x: x3, y: y3 },
         ),
-        touches,
+        cover,
     )
 }
 
-// Whether a tile is touched by a point: 0 and the answer, 1 for yes; or 1, 9, 7 in that order.
+// How a point covers a tile: 0 and the answer, 0 for apart, 1 for partly, 2 for wholly; or 1, 9, 7 in that order.
 #[no_mangle]
 pub extern "C" fn flourscoop_corner_point(
     width: u32,
@@ -363,19 +385,19 @@ pub extern "C" fn flourscoop_corner_point(
     tile: u32,
     x1: i32,
     y1: i32,
-    touches: &mut u32,
+    cover: &mut u32,
 ) -> u32
-    ensures { λ r. ⌜ Told (CornerSays (screen width height s) tile (Point (vertex x1 y1))) r (now (touches .exit)) ⌝ }
+    ensures { λ r. ⌜ Told (CornerSays (screen width height s) tile (Point (vertex x1 y1))) r (now (cover .exit)) ⌝ }
 {
-    corner_touches(
+    corner_cover(
         Screen { width, height, s },
         tile,
         Shape::Point(Vertex { x: x1, y: y1 }),
-        touches,
+        cover,
     )
 }
 
-// Whether a tile is touched by a line: 0 and the answer, 1 for yes; or 1, 9, 7 in that order.
+// How a line covers a tile: 0 and the answer, 0 for apart, 1 for partly, 2 for wholly; or 1, 9, 7 in that order.
 #[no_mangle]
 pub extern "C" fn flourscoop_corner_line(
     width: u32,
@@ -386,19 +408,19 @@ pub extern "C" fn flourscoop_corner_line(
     y1: i32,
     x2: i32,
     y2: i32,
-    touches: &mut u32,
+    cover: &mut u32,
 ) -> u32
-    ensures { λ r. ⌜ Told (CornerSays (screen width height s) tile (Line (vertex x1 y1) (vertex x2 y2))) r (now (touches .exit)) ⌝ }
+    ensures { λ r. ⌜ Told (CornerSays (screen width height s) tile (Line (vertex x1 y1) (vertex x2 y2))) r (now (cover .exit)) ⌝ }
 {
-    corner_touches(
+    corner_cover(
         Screen { width, height, s },
         tile,
         Shape::Line(Vertex { x: x1, y: y1 }, Vertex { x: x2, y: y2 }),
-        touches,
+        cover,
     )
 }
 
-// Whether a tile is touched by a triangle: 0 and the answer, 1 for yes; or 1, 9, 7 in that order.
+// How a triangle covers a tile: 0 and the answer, 0 for apart, 1 for partly, 2 for wholly; or 1, 9, 7 in that order.
 #[no_mangle]
 pub extern "C" fn flourscoop_corner_triangle(
     width: u32,
@@ -411,11 +433,11 @@ pub extern "C" fn flourscoop_corner_triangle(
     y2: i32,
     x3: i32,
     y3: i32,
-    touches: &mut u32,
+    cover: &mut u32,
 ) -> u32
-    ensures { λ r. ⌜ Told (CornerSays (screen width height s) tile (Triangle (vertex x1 y1) (vertex x2 y2) (vertex x3 y3))) r (now (touches .exit)) ⌝ }
+    ensures { λ r. ⌜ Told (CornerSays (screen width height s) tile (Triangle (vertex x1 y1) (vertex x2 y2) (vertex x3 y3))) r (now (cover .exit)) ⌝ }
 {
-    corner_touches(
+    corner_cover(
         Screen { width, height, s },
         tile,
         Shape::Triangle(
@@ -423,7 +445,7 @@ pub extern "C" fn flourscoop_corner_triangle(
             Vertex { x: x2, y: y2 },
             Vertex { x: x3, y: y3 },
         ),
-        touches,
+        cover,
     )
 }
 

@@ -1,6 +1,6 @@
-// Runs the twelve marked cases through bin and through the two questions about touching, each on a freshly opened pool of the screen 64 by 32 with
-// s = 4, then the case of the screen 60 by 32, and then the pool case to its end. Writes for each marked case the tiles listed, those by corner and those by
-// box.
+// Runs the twelve marked cases through bin and through the two questions how a shape covers a tile, each on a freshly opened pool of the screen 64 by 32 with
+// s = 4, then the cases of the screen 60 by 32, and then the pool case to its end. Writes for each marked case the tiles listed, those by corner and those by
+// box, with a star behind those that are wholly covered.
 use calls::Answered;
 use calls::Found;
 use libc::STDOUT_FILENO;
@@ -21,11 +21,20 @@ fn at(x: i32, y: i32) -> Vertex {
     Vertex { x, y }
 }
 
-// The tile's number, where the answer is yes.
+// The tile's number, and a star behind it where the tile is wholly covered.
+fn write_starred(t: u32, whole: bool) {
+    write(b" ");
+    write_number(t);
+    if whole {
+        write(b"*");
+    }
+}
+
+// The tile's number, where the answer is not apart.
 fn write_tile(answer: Answered, t: u32) {
-    if answer.touches {
-        write(b" ");
-        write_number(t);
+    let cover = answer.cover;
+    if touch::is_touched(cover) {
+        write_starred(t, touch::is_whole(cover));
     }
 }
 
@@ -33,7 +42,7 @@ fn write_tile(answer: Answered, t: u32) {
 fn write_by_corner(screen: Screen, shape: Shape) {
     let mut t = 0;
     while t < 8 {
-        write_tile(calls::corner_touches(screen, Tile(t), shape), t);
+        write_tile(calls::corner_cover(screen, Tile(t), shape), t);
         t += 1;
     }
 }
@@ -42,7 +51,7 @@ fn write_by_corner(screen: Screen, shape: Shape) {
 fn write_by_box(screen: Screen, shape: Shape) {
     let mut t = 0;
     while t < 8 {
-        write_tile(calls::box_touches(screen, Tile(t), shape), t);
+        write_tile(calls::box_cover(screen, Tile(t), shape), t);
         t += 1;
     }
 }
@@ -51,8 +60,7 @@ fn write_by_box(screen: Screen, shape: Shape) {
 fn write_found(found: Found, t: u32) {
     if found.number == 0 {
         if found.id == 7 {
-            write(b" ");
-            write_number(t);
+            write_starred(t, found.whole);
         }
     }
 }
@@ -258,5 +266,15 @@ fn main() {
     );
     run(b"60 by 32, past the glass", 60, Shape::Point(at(1000, 10)));
     run(b"60 by 32, at the glass", 60, Shape::Point(at(960, 10)));
+    run(
+        b"60 by 32, to the end of the glass",
+        60,
+        Shape::Triangle(at(0, 0), at(1920, 0), at(0, 1024)),
+    );
+    run(
+        b"60 by 32, one unit less",
+        60,
+        Shape::Triangle(at(0, 0), at(1919, 0), at(0, 1024)),
+    );
     pool_case();
 }

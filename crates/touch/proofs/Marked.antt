@@ -20,7 +20,7 @@ use Rattle.shape.specs.declared.Shape.the-variants.{Point}
 use Rattle.touch.specs.Corner.{bounds, Box}
 use Rattle.touch.specs.Touches.{Touches}
 use Rattle.touch.specs.Cover.{Wholly}
-use Rattle.touch.specs.Marked.{listed, TouchesOnly, CoversOnly, screen64, screen60, at, Case, M9, M11, table, covers, EachCase}
+use Rattle.touch.specs.Marked.{listed, TouchesOnly, CoversOnly, screen64, screen60, at, Case, M9, M11, table, covers, to-the-end, one-less, EachCase}
 use Rattle.touch.proofs.Answers.{corner, corner-says-touching, overlap-says, enclosed, enclosed-says-wholly}
 
 -- ---- a test of all numbers below n, and of all cases of a table
@@ -113,6 +113,15 @@ past-the-glass = touches-only screen60 allowed60 (Point (at (pos 1000) (pos 10))
 pub at-the-glass : TouchesOnly screen60 (Point (at (pos 960) (pos 10))) (3 ∷ [])
 unfolding below right same bounds across near far
 at-the-glass = touches-only screen60 allowed60 (Point (at (pos 960) (pos 10))) (3 ∷ []) tt
+
+-- the first covers every tile wholly, the last one too, whose full square it does not cover; the second covers the last tile no more
+pub to-the-end-of-the-glass : CoversOnly screen60 (to-the-end .shape) (to-the-end .tiles)
+unfolding below right same across near far
+to-the-end-of-the-glass = covers-only screen60 allowed60 (to-the-end .shape) (to-the-end .tiles) tt
+
+pub one-unit-less : CoversOnly screen60 (one-less .shape) (one-less .tiles)
+unfolding below right same across near far
+one-unit-less = covers-only screen60 allowed60 (one-less .shape) (one-less .tiles) tt
 
 -- the box of M9 has tile 7 too, and that of M11 tile 6
 pub box-of-M9 : Box M9 (rectangle screen64 7)

@@ -83,6 +83,21 @@ covers =
     ∷ record { shape = M12; tiles = 0 ∷ 1 ∷ 2 ∷ 3 ∷ 4 ∷ 5 ∷ 6 ∷ 7 ∷ [] }
     ∷ []
 
+-- on the screen of 60 by 32: a triangle whose long edge passes through the last corner of the glass, and one that ends one unit before
+abbrev pub to-the-end : Case
+to-the-end =
+    record {
+      shape = Triangle (at (pos 0) (pos 0)) (at (pos 1920) (pos 0)) (at (pos 0) (pos 1024));
+      tiles = 0 ∷ 1 ∷ 2 ∷ 3 ∷ 4 ∷ 5 ∷ 6 ∷ 7 ∷ [];
+    }
+
+abbrev pub one-less : Case
+one-less =
+    record {
+      shape = Triangle (at (pos 0) (pos 0)) (at (pos 1919) (pos 0)) (at (pos 0) (pos 1024));
+      tiles = 0 ∷ 1 ∷ 2 ∷ 3 ∷ 4 ∷ 5 ∷ 6 ∷ [];
+    }
+
 -- what holds of every case of a table
 abbrev pub EachCase : (Case → Type 0) → List Case → Type 0
 EachCase P [] = Unit {0}

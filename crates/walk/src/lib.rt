@@ -86,12 +86,12 @@ fn append_run(
     let mut column = start;
     let mut n = count;
     while column < past {
-        let cover = cover_in(screen, edges, column);
-        if !touch::is_touched(cover) {
+        let next = cover_in(screen, edges, column);
+        if !touch::is_touched(next) {
             return n;
         }
         let at = wide(n);
-        list[at] = flagged(base + column, touch::is_whole(cover));
+        list[at] = flagged(base + column, touch::is_whole(next));
         n += 1;
         column += 1;
     }
@@ -110,18 +110,20 @@ fn walk_row(screen: Screen, edges: Edges, row: u32, span: Span, list: &mut [u32]
     let in_row = touch::row_edges(edges, top, bottom);
     let end = span.end;
     let first = first_touched(screen, in_row, span);
-    if end <= first.column {
+    let column = first.column;
+    let whole = first.whole;
+    if end <= column {
         return count;
     }
     let base = row * screen::columns_of(screen);
     let at = wide(count);
-    list[at] = flagged(base + first.column, first.whole);
+    list[at] = flagged(base + column, whole);
     append_run(
         screen,
         in_row,
         base,
         Span {
-            start: first.column + 1,
+            start: column + 1,
             end,
         },
         list,

@@ -62,10 +62,10 @@ first-touched-requires c κs = let s = c .before .before .before .before in (s .
 
 returns : tie.Need-returns
 returns c =
-    let s = c .before .before .before .before .before .before .before in
+    let s = c .before .before .before .before .before .before in
     let d = s .args .screen in
-    let found = c .before .before .first-touched in
-    let first = subst (λ (e : RowEdges). First (ClearIn d e) (s .args .span) (found .result .column)) (in-row (c .before .before .before)) (found .ensures .0) in
+    let found = c .before .first-touched in
+    let first = subst (λ (e : RowEdges). First (ClearIn d e) (s .args .span) (found .result .column)) (in-row (c .before .before)) (found .ensures .0) in
     λ old g. (
       row-without d (s .pre .0 .0) (s .args .edges) (s .pre .0 .1) (s .args .row) (s .pre .1 .0 .0) (s .pre .1 .0 .1) (s .args .span) (s .pre .0 .2) first (search needs) (g .0),
       g .1,
@@ -76,7 +76,7 @@ columns-of-requires c κs = search needs
 
 mul-base : tie.Need-mul-base
 mul-base c =
-    let s = c .before .before .before .before .before .before .before .before in
+    let s = c .before .before .before .before .before .before .before in
     let e = ap (λ (x : ℕ). s .args .row * x) (c .columns-of .ensures) in
     omega (arith, row-room (s .args .screen) (s .pre .0 .0) (s .pre .1 .0 .0))
 
@@ -85,14 +85,14 @@ wide-requires c κs = search needs
 
 add-flagged : tie.Need-add-flagged
 add-flagged c =
-    let s = c .before .before .before .before .before .before .before .before .before .before in
-    let e = ap (λ (x : ℕ). s .args .row * x) (c .before .before .columns-of .ensures) in
+    let s = c .before .before .before .before .before .before .before .before in
+    let e = ap (λ (x : ℕ). s .args .row * x) (c .before .columns-of .ensures) in
     omega (arith, row-room (s .args .screen) (s .pre .0 .0) (s .pre .1 .0 .0), s .pre .0 .2 .within)
 
 flagged-requires : tie.Need-flagged-requires
 flagged-requires c κs =
-    let s = c .before .before .before .before .before .before .before .before .before .before in
-    let e = ap (λ (x : ℕ). s .args .row * x) (c .before .before .columns-of .ensures) in
+    let s = c .before .before .before .before .before .before .before .before in
+    let e = ap (λ (x : ℕ). s .args .row * x) (c .before .columns-of .ensures) in
     omega (arith, row-room (s .args .screen) (s .pre .0 .0) (s .pre .1 .0 .0), s .pre .0 .2 .within)
 
 mul-list : tie.Need-mul-list
@@ -100,24 +100,24 @@ mul-list c = search needs
 
 slice-write-list : tie.Need-slice-write-list
 slice-write-list c =
-    let s = c .before .before .before .before .before .before .before .before .before .before .before in
+    let s = c .before .before .before .before .before .before .before .before .before in
     omega (arith, row-room (s .args .screen) (s .pre .0 .0) (s .pre .1 .0 .0), columns≥ (s .args .screen) (s .pre .0 .0))
 
-add-t15 : tie.Need-add-t15
-add-t15 c = search needs
+add-t17 : tie.Need-add-t17
+add-t17 c = search needs
 
 add-append-run : tie.Need-add-append-run
-add-append-run c = let s = c .before .before .before .before .before .before .before .before .before .before .before .before .before in omega (arith, row-room (s .args .screen) (s .pre .0 .0) (s .pre .1 .0 .0))
+add-append-run c = let s = c .before .before .before .before .before .before .before .before .before .before in omega (arith, row-room (s .args .screen) (s .pre .0 .0) (s .pre .1 .0 .0))
 
 append-run-requires : tie.Need-append-run-requires
 append-run-requires c κs =
-    let s = c .before .before .before .before .before .before .before .before .before .before .before .before .before in
-    let e = ap (λ (x : ℕ). s .args .row * x) (c .before .before .before .before .before .columns-of .ensures) in
+    let s = c .before .before .before .before .before .before .before .before .before .before in
+    let e = ap (λ (x : ℕ). s .args .row * x) (c .before .before .before .columns-of .ensures) in
     let within = s .pre .0 .2 .within in
     let few = row-room (s .args .screen) (s .pre .0 .0) (s .pre .1 .0 .0) in (
       (
         s .pre .0 .0,
-        in-range (c .before .before .before .before .before .before .before .before .before),
+        in-range (c .before .before .before .before .before .before),
         within,
         omega arith,
       ),
@@ -133,16 +133,16 @@ same-length c = c .before .before .append-run .ensures .1 .size ∙ simp length-
 
 returns-2 : tie.Need-returns-2
 returns-2 c =
-    let s = c .before .before .before .before .before .before .before .before .before .before .before .before .before .before .before .before in
+    let s = c .before .before .before .before .before .before .before .before .before .before .before .before .before in
     let d = s .args .screen in
     let ok = s .pre .0 .0 in
     let row = s .args .row in
-    let found = c .before .before .before .before .before .before .before .before .before .before .before .first-touched in
+    let found = c .before .before .before .before .before .before .before .before .first-touched in
     let column = found .result .column in
-    let edges = in-row (c .before .before .before .before .before .before .before .before .before .before .before .before) in
-    let columns = c .before .before .before .before .before .before .before .before .columns-of .ensures in
-    let at = c .before .before .before .before .before .before .before .wide .ensures in
-    let word = c .before .before .before .before .before .flagged .ensures ∙ (λ i. flagged (row * columns i + column) (found .result .whole)) in
+    let edges = in-row (c .before .before .before .before .before .before .before .before .before) in
+    let columns = c .before .before .before .before .before .before .columns-of .ensures in
+    let at = c .before .before .before .before .before .wide .ensures in
+    let word = c .before .before .before .before .flagged .ensures ∙ (λ i. flagged (row * columns i + column) (found .result .whole)) in
     let run = c .before .before .append-run in
     let exit = run .last .1 .1 .1 .1 .0 in
     λ old.
@@ -174,7 +174,7 @@ walk-row-spec =
     flagged-requires
     mul-list
     slice-write-list
-    add-t15
+    add-t17
     add-append-run
     append-run-requires
     same-length

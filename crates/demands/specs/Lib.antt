@@ -10,3 +10,4 @@ pub mod Sizing
 pub mod OldLayout
 pub mod Editions
 pub mod BinList
+pub mod Flags

@@ -8,7 +8,6 @@ use lib.IntN.{ℤ, pos}
 use lib.Signed.{_≤ℤ_, _<ℤ_, leZ, ltZ}
 use Rattle.numbers.specs.Is.{Is}
 use Rattle.numbers.specs.Says.{Says}
-use Rattle.numbers.proofs.Diff.{diff-pos, diff-any, lt-diff}
 use Rattle.numbers.proofs.Says.{says-yes, says-no, says-iff, says-and, says-not}
 use Rattle.numbers.proofs.Deciding.{says-leℤ, says-ltℤ}
 use Rattle.screen.specs.declared.Rectangle.{Rectangle}
@@ -16,15 +15,16 @@ use Rattle.screen.specs.Rectangle.{Proper, HasArea}
 use Rattle.shape.specs.declared.Vertex.{Vertex}
 use Rattle.shape.specs.declared.Shape.{Shape}
 use Rattle.touch.specs.declared.Bounds.{Bounds}
-use Rattle.touch.specs.declared.Corners.{Corners}
+use Rattle.touch.specs.declared.Ends.{Ends}
 use Rattle.touch.specs.Touches.{Touches}
 use Rattle.touch.specs.Corner.{three, bounds, Overlap, edgeValue, Apart, Separates}
 use Rattle.touch.specs.Corner.Apart.{above, below}
 use Rattle.touch.specs.Cover.{Wholly}
-use Rattle.touch.specs.Inner.{OnSide, Inner, cornersOf, Keeps}
+use Rattle.touch.specs.Inner.{OnSide, Corners, AllOnSide, cornersOf, Keeps, Outer, Inner}
 use Rattle.touch.specs.Inner.OnSide.{over, under}
 use Rattle.touch.proofs.Theorem.{corner-is-touching}
 use Rattle.touch.proofs.Covering.{enclosed-is-wholly}
+use Rattle.touch.proofs.Extremes.{over-side, under-side}
 
 pub says-same : {P : Type 0} {r s : Bool} → r ≡ s → Says s P → Says r P
 says-same {P} e h = subst (λ (t : Bool). Says t P) (sym e) h
@@ -88,24 +88,10 @@ module _ (third p q r s : ℤ) where
 
 -- ---- one edge, for covering
 
-abbrev pub inner : ℤ → Corners → Bool
-inner third v =
+abbrev on-side : ℤ → Corners → Bool
+on-side third v =
     (ltZ (pos 0) third && ((leZ (pos 0) (v .p) && leZ (pos 0) (v .q)) && (leZ (pos 0) (v .r) && leZ (pos 0) (v .s))))
     || (ltZ third (pos 0) && ((leZ (v .p) (pos 0) && leZ (v .q) (pos 0)) && (leZ (v .r) (pos 0) && leZ (v .s) (pos 0))))
-
-both-sides : {third : ℤ} → pos 0 <ℤ third → third <ℤ pos 0 → ⊥
-both-sides {third} h k =
-    let p = lt-diff (diff-pos 0) (diff-any third) h in
-    let q = lt-diff (diff-any third) (diff-pos 0) k in
-    omega arith
-
-over-side : {third v : ℤ} → pos 0 <ℤ third → OnSide third v → pos 0 ≤ℤ v
-over-side h (over z p) = p
-over-side h (under z p) = absurd (both-sides h z)
-
-under-side : {third v : ℤ} → third <ℤ pos 0 → OnSide third v → v ≤ℤ pos 0
-under-side h (over z p) = absurd (both-sides z h)
-under-side h (under z p) = p
 
 module _ (third : ℤ) (v : Corners) where
   abbrev Over : Type 0
@@ -114,24 +100,59 @@ module _ (third : ℤ) (v : Corners) where
   abbrev Under : Type 0
   Under = (third <ℤ pos 0) × (((v .p ≤ℤ pos 0) × (v .q ≤ℤ pos 0)) × ((v .r ≤ℤ pos 0) × (v .s ≤ℤ pos 0)))
 
-  all-inner : Over ⊎ Under → Inner third v
-  all-inner =
+  all-on-side : Over ⊎ Under → AllOnSide third v
+  all-on-side =
       ⊎-elim
       (λ h. record { p = over (h .0) (h .1 .0 .0); q = over (h .0) (h .1 .0 .1); r = over (h .0) (h .1 .1 .0); s = over (h .0) (h .1 .1 .1) })
       (λ h. record { p = under (h .0) (h .1 .0 .0); q = under (h .0) (h .1 .0 .1); r = under (h .0) (h .1 .1 .0); s = under (h .0) (h .1 .1 .1) })
 
-  one-side : Inner third v → OnSide third (v .p) → Over ⊎ Under
+  one-side : AllOnSide third v → OnSide third (v .p) → Over ⊎ Under
   one-side h (over z p) = inl (z, ((p, over-side z (h .q)), (over-side z (h .r), over-side z (h .s))))
   one-side h (under z p) = inr (z, ((p, under-side z (h .q)), (under-side z (h .r), under-side z (h .s))))
 
-  pub inner-says : Says (inner third v) (Inner third v)
-  inner-says =
-      says-iff all-inner (λ h. one-side h (h .p))
+  on-side-says : Says (on-side third v) (AllOnSide third v)
+  on-side-says =
+      says-iff all-on-side (λ h. one-side h (h .p))
       (says-or
       (says-and (says-ltℤ (pos 0) third)
       (says-and (says-and (says-leℤ (pos 0) (v .p)) (says-leℤ (pos 0) (v .q))) (says-and (says-leℤ (pos 0) (v .r)) (says-leℤ (pos 0) (v .s)))))
       (says-and (says-ltℤ third (pos 0))
       (says-and (says-and (says-leℤ (v .p) (pos 0)) (says-leℤ (v .q) (pos 0))) (says-and (says-leℤ (v .r) (pos 0)) (says-leℤ (v .s) (pos 0))))))
+
+-- ---- the tests of the code, by the least and the greatest value
+
+module _ (third : ℤ) (v : Ends) where
+  abbrev pub outer : Bool
+  outer = (leZ third (pos 0) && ltZ (pos 0) (v .least)) || (leZ (pos 0) third && ltZ (v .greatest) (pos 0))
+
+  outer-of : ((third ≤ℤ pos 0) × (pos 0 <ℤ v .least)) ⊎ ((pos 0 ≤ℤ third) × (v .greatest <ℤ pos 0)) → Outer third v
+  outer-of (inl h) = Outer.all-above (h .0) (h .1)
+  outer-of (inr h) = Outer.all-below (h .0) (h .1)
+
+  of-outer : Outer third v → ((third ≤ℤ pos 0) × (pos 0 <ℤ v .least)) ⊎ ((pos 0 ≤ℤ third) × (v .greatest <ℤ pos 0))
+  of-outer (Outer.all-above t h) = inl (t, h)
+  of-outer (Outer.all-below t h) = inr (t, h)
+
+  pub outer-says : Says outer (Outer third v)
+  outer-says =
+      says-iff outer-of of-outer
+      (says-or (says-and (says-leℤ third (pos 0)) (says-ltℤ (pos 0) (v .least))) (says-and (says-leℤ (pos 0) third) (says-ltℤ (v .greatest) (pos 0))))
+
+  abbrev pub inner : Bool
+  inner = (ltZ (pos 0) third && leZ (pos 0) (v .least)) || (ltZ third (pos 0) && leZ (v .greatest) (pos 0))
+
+  inner-of : ((pos 0 <ℤ third) × (pos 0 ≤ℤ v .least)) ⊎ ((third <ℤ pos 0) × (v .greatest ≤ℤ pos 0)) → Inner third v
+  inner-of (inl h) = Inner.none-below (h .0) (h .1)
+  inner-of (inr h) = Inner.none-above (h .0) (h .1)
+
+  of-inner : Inner third v → ((pos 0 <ℤ third) × (pos 0 ≤ℤ v .least)) ⊎ ((third <ℤ pos 0) × (v .greatest ≤ℤ pos 0))
+  of-inner (Inner.none-below t h) = inl (t, h)
+  of-inner (Inner.none-above t h) = inr (t, h)
+
+  pub inner-says : Says inner (Inner third v)
+  inner-says =
+      says-iff inner-of of-inner
+      (says-or (says-and (says-ltℤ (pos 0) third) (says-leℤ (pos 0) (v .least))) (says-and (says-ltℤ third (pos 0)) (says-leℤ (v .greatest) (pos 0))))
 
 -- ---- the corner test
 
@@ -173,10 +194,10 @@ corner-says-touching shape q ok =
 -- ---- the test for covering
 
 abbrev keeps : (a b c : Vertex) → Rectangle → Bool
-keeps a b c q = inner (edgeValue a b (c .x) (c .y)) (cornersOf a b q)
+keeps a b c q = on-side (edgeValue a b (c .x) (c .y)) (cornersOf a b q)
 
 keeps-says : (a b c : Vertex) (q : Rectangle) → Says (keeps a b c q) (Keeps a b c q)
-keeps-says a b c q = inner-says (edgeValue a b (c .x) (c .y)) (cornersOf a b q)
+keeps-says a b c q = on-side-says (edgeValue a b (c .x) (c .y)) (cornersOf a b q)
 
 abbrev pub enclosed : Shape → Rectangle → Bool
 enclosed shape q =

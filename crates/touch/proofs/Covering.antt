@@ -19,13 +19,12 @@ use Rattle.shape.specs.declared.Shape.{Shape}
 use Rattle.shape.specs.declared.Shape.the-variants.{Point, Line}
 use Rattle.touch.specs.declared.Edges.{Edges}
 use Rattle.touch.specs.declared.RowEdges.{RowEdges}
-use Rattle.touch.specs.declared.Corners.{Corners}
 use Rattle.touch.specs.declared.Cover as answer
 use Rattle.touch.specs.Corner.{three, triangle, Box, edgeValue}
 use Rattle.touch.specs.Corner.Apart.{above, below}
 use Rattle.touch.specs.Edges.{edgesOf, starts, Outline, rowEdges, Clear}
 use Rattle.touch.specs.Cover.{HasPoint, Wholly, CoverSays, isTouched, isWhole}
-use Rattle.touch.specs.Inner.{OnSide, Outer, Keeps, Enclosed, cornersAt, EnclosedAt, CoverAt}
+use Rattle.touch.specs.Inner.{OnSide, Corners, AllApart, Keeps, Enclosed, cornersAt, EnclosedAt, CoverAt}
 use Rattle.touch.specs.Inner.OnSide.{over, under}
 use Rattle.touch.proofs.Natural.{Spot, Frame, Hits, turn, Pos}
 use Rattle.touch.proofs.Bias.{Spotted, Framed, depth, depthOf, spot, frame, spotted, framed, is-above, is-below, not-above, not-below, edge-diff, to-hits, from-hits}
@@ -224,7 +223,7 @@ lt-not-le {x} {y} h k =
     let q = le-diff (diff-any y) (diff-any x) k in
     omega arith
 
-inner-not-outer : {third : ℤ} {v : Corners} → OnSide third (v .p) → Outer third v → ⊥
+inner-not-outer : {third : ℤ} {v : Corners} → OnSide third (v .p) → AllApart third v → ⊥
 inner-not-outer (over z p) (above t a b c d) = lt-not-le z t
 inner-not-outer (over z p) (below t a b c d) = lt-not-le a p
 inner-not-outer (under z p) (above t a b c d) = lt-not-le a p

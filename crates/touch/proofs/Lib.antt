@@ -14,3 +14,4 @@ pub mod Sizes
 pub mod Points
 pub mod Sides
 pub mod Covering
+pub mod Extremes

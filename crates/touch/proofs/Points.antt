@@ -1,12 +1,10 @@
 -- A point of a shape is what touches as a rectangle of one point. What touches a rectangle touches one that holds it, so what covers wholly touches.
-use Prim.Native.Nat.{ℕ}
 use mathlib.Core.Path.{_≡_, sym, subst}
 use mathlib.Core.Logic.{_↔_}
 use native.Mathlib.Omega.{arith}
-use native.Mathlib.Nat.{mul-le-mul-left}
-use lib.IntN.{ℤ, pos, _*ℤ_}
+use lib.IntN.{ℤ}
 use lib.Signed.{_≤ℤ_}
-use Rattle.numbers.proofs.Diff.{diff-pos, diff-any, diff-mul, diff-le, le-diff, diff-eq, ≤ℤ-trans}
+use Rattle.numbers.proofs.Diff.{diff-any, diff-le, le-diff, diff-eq, ≤ℤ-trans, times-rises}
 use Rattle.screen.specs.declared.Rectangle.{Rectangle}
 use Rattle.screen.specs.Rectangle.{Proper}
 use Rattle.shape.specs.declared.Shape.{Shape}
@@ -30,11 +28,6 @@ pub ≤ℤ-of : {x y : ℤ} → x ≡ y → x ≤ℤ y
     let p = le-diff (diff-any x) (diff-any y) h in
     let q = le-diff (diff-any y) (diff-any x) k in
     diff-eq (diff-any x) (diff-any y) (omega arith)
-
-times : (n : ℕ) {x y : ℤ} → x ≤ℤ y → (pos n *ℤ x) ≤ℤ (pos n *ℤ y)
-times n {x} {y} h =
-    diff-le (diff-mul (diff-pos n) (diff-any x)) (diff-mul (diff-pos n) (diff-any y))
-    (omega (arith, mul-le-mul-left n (le-diff (diff-any x) (diff-any y) h)))
 
 -- ---- points
 
@@ -85,10 +78,10 @@ touches-wider l r t b h =
           record {
             one-each = h .mean .one-each;
             some = h .mean .some;
-            left = ≤ℤ-trans (times _ l) (h .mean .left);
-            right = ≤ℤ-trans (h .mean .right) (times _ r);
-            top = ≤ℤ-trans (times _ t) (h .mean .top);
-            bottom = ≤ℤ-trans (h .mean .bottom) (times _ b);
+            left = ≤ℤ-trans (times-rises _ l) (h .mean .left);
+            right = ≤ℤ-trans (h .mean .right) (times-rises _ r);
+            top = ≤ℤ-trans (times-rises _ t) (h .mean .top);
+            bottom = ≤ℤ-trans (h .mean .bottom) (times-rises _ b);
           };
     }
 

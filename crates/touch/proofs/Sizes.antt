@@ -1,8 +1,8 @@
 -- How large the numbers of an edge are, from the range of the vertices and of the sides.
-use Prim.Native.Nat.{ℕ, _<_, _^_}
+use Prim.Native.Nat.{ℕ, _≤_, _<_, _^_}
 use mathlib.Core.Path.{refl, sym, subst}
 use mathlib.Core.Bool.{Bool, true, false, cond}
-use lib.IntN.{ℤ, pos, _-ℤ_, _*ℤ_}
+use lib.IntN.{ℤ, pos, natAbs, _-ℤ_, _*ℤ_}
 use lib.Signed.{_≤ℤ_, leZ, mag}
 use mir.Syntax.{Width, w64}
 use mir.Val.{hbits}
@@ -82,6 +82,11 @@ way p q = is-sub (is-kept w64 tt (is-within p)) (is-kept w64 tt (is-within q))
 pub part : {z y d : ℤ} → Within 524288 z → Within 262144 y → Within 524288 d
     → Is (kept w64 (kept w64 z -ℤ kept w64 y) *ℤ kept w64 d) ((z -ℤ y) *ℤ d) 412316860416
 part p q r = is-mul (is-kept w64 tt (way p q)) (is-kept w64 tt (is-within r))
+
+-- the lesser and the greater of two are as small as both
+pub picked-size : (t : Bool) (x y : ℤ) {M : ℕ} → natAbs x ≤ M → natAbs y ≤ M → natAbs (cond t x y) ≤ M
+picked-size true x y p q = p
+picked-size false x y p q = q
 
 -- ---- the edges, and the edges in a row
 

@@ -7,7 +7,7 @@ ghost use Rattle.shape.specs.Shape.{InRange, Placed};
 ghost use Rattle.touch.specs.Corner.{three, lesser, greater, bounds, Overlap, Box};
 ghost use Rattle.touch.specs.Edges.{AllPlaced, edgeOf, edgesOf, rowEdge, rowEdges, Within, EdgeRange, EdgesRange, RowEdgeRange, RowEdgesRange};
 ghost use Rattle.touch.specs.Cover.{CoverSays, BoxCoverSays, isTouched, isWhole};
-ghost use Rattle.touch.specs.Inner.{cornersAt, Outer, Inner, CoverAt};
+ghost use Rattle.touch.specs.Inner.{endsAt, Outer, Inner, CoverAt};
 use screen::Rectangle;
 use shape::Shape;
 use shape::Vertex;
@@ -59,12 +59,10 @@ pub struct RowEdges {
     pub ca: RowEdge,
 }
 
-// The edge values at the four corners of a rectangle: left and right at the top, left and right at the bottom.
-pub struct Corners {
-    pub p: i64,
-    pub q: i64,
-    pub r: i64,
-    pub s: i64,
+// The least and the greatest of the edge values at the four corners of a rectangle.
+pub struct Ends {
+    pub least: i64,
+    pub greatest: i64,
 }
 
 // How a shape covers a rectangle: it touches it nowhere, or not all four corners are points of it, or all four are.
@@ -204,46 +202,51 @@ fn edges_in(shape: Shape, rectangle: Rectangle) -> RowEdges
     row_edges(edges_of(three_of(shape)), rectangle.top, rectangle.bottom)
 }
 
-// The edge values at the corners, in the row from left to right.
-fn corners_at(edge: RowEdge, left: i64, right: i64) -> Corners
+// The lesser of two edge values.
+fn lesser(x: i64, y: i64) -> i64
+    ensures { λ r. ⌜ r ≡ lesser x y ⌝ }
+{
+    if x <= y { x } else { y }
+}
+
+// The greater of two edge values.
+fn greater(x: i64, y: i64) -> i64
+    ensures { λ r. ⌜ r ≡ greater x y ⌝ }
+{
+    if x <= y { y } else { x }
+}
+
+// The least and the greatest edge value at the corners, in the row from left to right. An edge value is what its column gives less what its row gives, so that
+// the lesser of two columns and the greater of two rows give the least.
+fn ends_at(edge: RowEdge, left: i64, right: i64) -> Ends
     requires { ⌜ (RowEdgeRange edge) × (Within 524288 left) × (Within 524288 right) ⌝ }
-    ensures { λ r. ⌜ r ≡ cornersAt edge left right ⌝ }
+    ensures { λ r. ⌜ r ≡ endsAt edge left right ⌝ }
 {
     let near = (left - edge.x) * edge.dy;
     let far = (right - edge.x) * edge.dy;
-    Corners {
-        p: near - edge.upper,
-        q: far - edge.upper,
-        r: near - edge.lower,
-        s: far - edge.lower,
+    Ends {
+        least: lesser(near, far) - greater(edge.upper, edge.lower),
+        greatest: greater(near, far) - lesser(edge.upper, edge.lower),
     }
 }
 
 // Whether the four corners lie strictly on a side of the edge on which the third vertex does not lie.
-fn outer(edge: RowEdge, corners: Corners) -> bool
-    ensures { λ r. ⌜ Says r (Outer (edge .third) corners) ⌝ }
+fn outer(edge: RowEdge, ends: Ends) -> bool
+    ensures { λ r. ⌜ Says r (Outer (edge .third) ends) ⌝ }
 {
     let third = edge.third;
-    let p = corners.p;
-    let q = corners.q;
-    let r = corners.r;
-    let s = corners.s;
-    let above = (third <= 0) & (((0 < p) & (0 < q)) & ((0 < r) & (0 < s)));
-    let below = (0 <= third) & (((p < 0) & (q < 0)) & ((r < 0) & (s < 0)));
+    let above = (third <= 0) & (0 < ends.least);
+    let below = (0 <= third) & (ends.greatest < 0);
     above | below
 }
 
 // Whether the third vertex does not lie on the edge, and each of the four corners lies on its side or on the edge.
-fn inner(edge: RowEdge, corners: Corners) -> bool
-    ensures { λ r. ⌜ Says r (Inner (edge .third) corners) ⌝ }
+fn inner(edge: RowEdge, ends: Ends) -> bool
+    ensures { λ r. ⌜ Says r (Inner (edge .third) ends) ⌝ }
 {
     let third = edge.third;
-    let p = corners.p;
-    let q = corners.q;
-    let r = corners.r;
-    let s = corners.s;
-    let over = (0 < third) & (((0 <= p) & (0 <= q)) & ((0 <= r) & (0 <= s)));
-    let under = (third < 0) & (((p <= 0) & (q <= 0)) & ((r <= 0) & (s <= 0)));
+    let over = (0 < third) & (0 <= ends.least);
+    let under = (third < 0) & (ends.greatest <= 0);
     over | under
 }
 
@@ -252,15 +255,15 @@ pub fn cover_at(edges: RowEdges, left: i64, right: i64) -> Cover
     requires { ⌜ (RowEdgesRange edges) × (Within 524288 left) × (Within 524288 right) ⌝ }
     ensures { λ r. ⌜ CoverAt r edges left right ⌝ }
 {
-    let ab = corners_at(edges.ab, left, right);
+    let ab = ends_at(edges.ab, left, right);
     if outer(edges.ab, ab) {
         return Cover::Apart;
     }
-    let bc = corners_at(edges.bc, left, right);
+    let bc = ends_at(edges.bc, left, right);
     if outer(edges.bc, bc) {
         return Cover::Apart;
     }
-    let ca = corners_at(edges.ca, left, right);
+    let ca = ends_at(edges.ca, left, right);
     if outer(edges.ca, ca) {
         return Cover::Apart;
     }

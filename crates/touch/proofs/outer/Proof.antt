@@ -1,6 +1,6 @@
 -- `touch::outer` meets its contract: the values are read as they are, and the tests are those of the definition.
 use mir.Syntax.{w64}
-use Rattle.touch.proofs.Answers.{apart, apart-says, says-same}
+use Rattle.touch.proofs.Answers.{outer, outer-says, says-same}
 use Rattle.touch.proofs.Sizes.{is-field}
 use Rattle.touch.proofs.outer.Statement.{statement}
 use Rattle.touch.proofs.outer.Tie as tie
@@ -8,14 +8,10 @@ use Rattle.touch.proofs.outer.Tie as tie
 returns : tie.Need-returns
 returns c =
     let s = c .before .before .before .before .before in
-    let v = s .args .corners in
-    let g = c .struct-told5 .given in
     let third = is-field w64 (s .args .edge .third) (c .before .before .before .before .struct-told .given .1 .1 .0 .1) in
-    let p = is-field w64 (v .p) (g .0 .1) in
-    let q = is-field w64 (v .q) (g .1 .0 .1) in
-    let r = is-field w64 (v .r) (g .1 .1 .0 .1) in
-    let t = is-field w64 (v .s) (g .1 .1 .1 .0 .1) in
-    says-same (λ i. apart (third .same i) (p .same i) (q .same i) (r .same i) (t .same i)) (apart-says _ _ _ _ _)
+    let least = is-field w64 (s .args .ends .least) (c .before .before .struct-told2 .given .0 .1) in
+    let greatest = is-field w64 (s .args .ends .greatest) (c .struct-told3 .given .1 .0 .1) in
+    says-same (λ i. outer (third .same i) (record { least = least .same i; greatest = greatest .same i })) (outer-says _ _)
 
 pub outer-spec : {M : Type 1} → statement M
 outer-spec = tie.close (tie.spec returns)

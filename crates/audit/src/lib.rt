@@ -2,8 +2,8 @@
 // Each block is marked as it is met, and no chain is followed past a marked block: the time is linear in the room, whatever the words are. These marks are
 // bytes on the stack; the mark of a tile is one of its words.
 use numbers::wide;
-use pool::Edition;
 use pool::ENTRY_LIMIT;
+use pool::Edition;
 use pool::MOST_BLOCKS;
 use pool::POISON;
 use pool::TILE_WORDS;

@@ -1,7 +1,7 @@
 -- Answers that are put together from others, and the corner test as a function to Bool, which answers as `Touches` does.
 use Prim.Native.Nat.{ℕ}
 use native.Mathlib.Omega.{arith}
-use mathlib.Core.Path.{_≡_, refl, sym, subst, _∙_}
+use mathlib.Core.Path.{_≡_, refl, sym, ap, subst, _∙_}
 use mathlib.Core.Bool.{Bool, true, false, not, _&&_, _||_}
 use mathlib.Core.Logic.{_⊎_, inl, inr, ⊎-elim}
 use lib.IntN.{ℤ, pos}
@@ -32,6 +32,10 @@ says-same {P} e h = subst (λ (t : Bool). Says t P) (sym e) h
 -- a test of two numbers as the machine reads them is the test of the two
 pub same-test : {v z u y : ℤ} {M N : ℕ} → Is v z M → Is u y N → {t : Bool} → leZ v u ≡ t → leZ z y ≡ t
 same-test p q e = (λ i. leZ (sym (p .same) i) (sym (q .same) i)) ∙ e
+
+-- what is picked by such a test is what the test of the two picks
+pub picks : (pick : Bool → ℤ) {v z u y : ℤ} {M N : ℕ} → Is v z M → Is u y N → {t : Bool} → leZ v u ≡ t → {r : ℤ} → r ≡ pick t → r ≡ pick (leZ z y)
+picks pick p q e same = same ∙ sym (ap pick (same-test p q e))
 
 -- one of two answers says whether either holds
 says-or : {P Q : Type 0} {r s : Bool} → Says r P → Says s Q → Says (r || s) (P ⊎ Q)

@@ -269,8 +269,7 @@ outline-cover-at-says {e} {q} o ok area box r h =
 pub outline-enclosed-is-wholly : {e : Edges} {q : Rectangle} → Outline e → HasArea q
     → EnclosedAt (rowEdges e (q .top) (q .bottom)) (q .left) (q .right) ↔ Wholly (triangle (starts e)) q
 outline-enclosed-is-wholly {e} {q} o area =
-    subst (λ (d : Edges). EnclosedAt (rowEdges d (q .top) (q .bottom)) (q .left) (q .right) ↔ Wholly (triangle (starts e)) q) (sym (o .is))
-    (
+    subst (λ (d : Edges). EnclosedAt (rowEdges d (q .top) (q .bottom)) (q .left) (q .right) ↔ Wholly (triangle (starts e)) q) (sym (o .is)) (
       (λ h. enclosed-is-wholly (triangle (starts e)) area .0 (record { ab = h .ab; bc = h .bc; ca = h .ca })),
       λ w. let h = enclosed-is-wholly (triangle (starts e)) area .1 w in record { ab = h .ab; bc = h .bc; ca = h .ca },
     )

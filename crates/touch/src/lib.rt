@@ -131,7 +131,11 @@ fn box_touches(shape: Shape, rectangle: Rectangle) -> bool
 pub fn box_cover(shape: Shape, rectangle: Rectangle) -> Cover
     ensures { λ r. ⌜ BoxCoverSays r shape rectangle ⌝ }
 {
-    if box_touches(shape, rectangle) { Cover::Partly } else { Cover::Apart }
+    if box_touches(shape, rectangle) {
+        Cover::Partly
+    } else {
+        Cover::Apart
+    }
 }
 
 // The edge from a to b, with the edge value of c.

@@ -199,8 +199,7 @@ module _ (d : Screen) (a : Allowed d) (e : Edges) (o : Outline e) (row : ℕ) (r
       let small : base + first < flag = omega (arith, row-room d a r<) in
       let as-many = r .run .as-many in
       let from≤ = r .run .from≤ in
-      let w = flagged (base + first) whole in
-      (
+      let w = flagged (base + first) whole in (
         row-with f l (rw (length-plains mid) room)
             (subst (λ (xs : List ℕ). RunIn Q base (record { start = first + 1; end = span .end }) (count + 1) n xs (plains new))
             (set-plains mid count w ∙ ap (set (plains mid) count) (plain-flagged (base + first) small whole)) r)

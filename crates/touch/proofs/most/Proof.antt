@@ -1,27 +1,24 @@
 -- `touch::most` meets its contract: each branch returns what the test picks.
-use mathlib.Core.Path.{sym, ap, _∙_}
 use mathlib.Core.Bool.{Bool, cond}
 use mir.Syntax.{w32}
 use Rattle.numbers.proofs.Is.{is-arg}
-use Rattle.touch.proofs.Answers.{same-test}
+use Rattle.touch.proofs.Answers.{picks}
 use Rattle.touch.proofs.most.Statement.{statement}
 use Rattle.touch.proofs.most.Tie as tie
 
 returns : tie.Need-returns
 returns c =
-    let x = c .before .args .x in
-    let y = c .before .args .y in
-    let p = is-arg w32 (c .before .fits .x) in
-    let q = is-arg w32 (c .before .fits .y) in
-    q .same ∙ sym (ap (λ (t : Bool). cond t y x) (same-test p q (c .if1 .taken)))
+    let s = c .before in
+    let p = is-arg w32 (s .fits .x) in
+    let q = is-arg w32 (s .fits .y) in
+    picks (λ (t : Bool). cond t (s .args .y) (s .args .x)) p q (c .if1 .taken) (q .same)
 
 returns-2 : tie.Need-returns-2
 returns-2 c =
-    let x = c .before .args .x in
-    let y = c .before .args .y in
-    let p = is-arg w32 (c .before .fits .x) in
-    let q = is-arg w32 (c .before .fits .y) in
-    p .same ∙ sym (ap (λ (t : Bool). cond t y x) (same-test p q (c .if1 .left)))
+    let s = c .before in
+    let p = is-arg w32 (s .fits .x) in
+    let q = is-arg w32 (s .fits .y) in
+    picks (λ (t : Bool). cond t (s .args .y) (s .args .x)) p q (c .if1 .left) (p .same)
 
 pub most-spec : {M : Type 1} → statement M
 most-spec = tie.close (tie.spec returns returns-2)

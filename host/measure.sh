@@ -1,7 +1,7 @@
 #!/usr/bin/env bash
 # The measures of docs/PERFORMANCE.md, of target/host/libflourscoop.a as host/build.sh made it: nanoseconds per call beside
 # a plain Rust binner, stack per call, code size, and what the archive needs from outside.
-# host/measure.sh ARCHIVE times the calls on a pool once more, by turns with another version's archive.
+# host/measure.sh ARCHIVE times calls on a pool once more, by turns with another version's archive, 0.6.0 or newer.
 set -eu
 other=${1:+$(realpath -e -- "$1")}
 cd "$(dirname "${BASH_SOURCE[0]}")"
@@ -18,6 +18,7 @@ renamed() {
     objcopy --redefine-syms="$made/$2.names" --set-section-alignment '.text*=64' "$1" "$made/lib$2.a"
 }
 if [ -n "$other" ]; then
+    nm -g --defined-only "$other" | grep -q ' flourscoop_bin_list$' || stop "$other is of a version before 0.6.0: it has no flourscoop_bin_list"
     renamed "$other" other
     renamed "$made/libflourscoop.a" this
     export FLOURSCOOP_TURNS=$PWD/$made

@@ -1,6 +1,6 @@
 /* Every call by include/flourscoop.h, from C or C++: document 01's pool case, one answer and one refusal of each, marks, and
-   the blocks that they ask for, and draw calls, all in both editions; tiles that the screen cuts; lists of shapes; the
-   header's rooms, texts and version. */
+   the blocks that they ask for, tiles wholly covered, and draw calls, all in both editions; tiles that the screen cuts; lists
+   of shapes; the header's rooms, texts and version. */
 #include <float.h>
 #include <math.h>
 #include <stdio.h>
@@ -40,8 +40,8 @@ static const int32_t listed[LIST_WORDS] = {
 };
 static const uint64_t listed_totals[7] = {4, 1, 22, 19, 3, 7, 2}, no_totals[7] = {0};
 
-/* The draw call of the header's example, its answers, and the list of each tile afterwards, whose ids are all above 0. */
-enum { DRAWN = 7, DRAWN_WORDS = DRAWN * FLOURSCOOP_BIN_WORDS, DRAWN_BLOCKS = 4, SPARE = 3 };
+/* The draw call of the header's example, its answers, and the entries of each tile afterwards, which are all above 0. */
+enum { DRAWN = 8, DRAWN_WORDS = DRAWN * FLOURSCOOP_BIN_WORDS, DRAWN_BLOCKS = 4, SPARE = 3 };
 enum { DRAW_ROOM = FLOURSCOOP_ROOM_TWO(WIDTH, HEIGHT, S, DRAWN_BLOCKS, 64) };
 static const int32_t drawn[DRAWN_WORDS] = {
     FLOURSCOOP_POINT, 0, 0, 0, 0, 0, 0, 7,
@@ -51,10 +51,12 @@ static const int32_t drawn[DRAWN_WORDS] = {
     FLOURSCOOP_POINT, 5, 5, 0, 0, 0, 0, -1,
     FLOURSCOOP_POINT, 5, 262144, 0, 0, 0, 0, 11,
     FLOURSCOOP_LINE, 100, 100, 300, 100, 0, 0, 12,
+    FLOURSCOOP_TRIANGLE, 0, -129, 0, 385, 511, 128, 13,
 };
 static const uint8_t drawn_answers[DRAWN] = {FLOURSCOOP_DONE, FLOURSCOOP_NO_ROOM, FLOURSCOOP_DONE, FLOURSCOOP_NO_ROOM,
-                                             FLOURSCOOP_ID, FLOURSCOOP_OUT_OF_RANGE, FLOURSCOOP_DONE};
-static const uint32_t drawn_lists[8][4] = {{7, 9, 12}, {9, 12}, {0}, {0}, {9}, {9}, {0}, {0}};
+                                             FLOURSCOOP_ID, FLOURSCOOP_OUT_OF_RANGE, FLOURSCOOP_DONE, FLOURSCOOP_DONE};
+static const uint32_t drawn_lists[8][5] = {{7, 9, 12, FLOURSCOOP_WHOLE + 13}, {9, 12, 13}, {0}, {0}, {9, 13}, {9, 13},
+                                           {0}, {0}};
 static uint32_t draw_pool[DRAW_ROOM], single_pool[DRAW_ROOM];
 static size_t draw_room;
 
@@ -161,6 +163,14 @@ static void expect_no_answers(const char *name, uint32_t *words, size_t length, 
     expect_that(memcmp(before, draw_pool, sizeof before) == 0, name);
 }
 
+/* Reads a place of a tile's list; zeros are written where it is refused. */
+static void expect_read(const char *name, const uint32_t *words, size_t length, uint32_t tile, uint32_t place,
+                        uint32_t wanted, uint32_t id, uint32_t whole)
+{
+    value = other = 0xAAAAAAAA;
+    expect(name, flourscoop_read(words, length, tile, place, &value, &other), wanted, id, whole);
+}
+
 /* Asks for a mark; zero is written where it is refused. */
 static void expect_mark(const uint32_t *words, size_t length, uint32_t tile, uint32_t wanted, uint32_t mark)
 {
@@ -177,7 +187,7 @@ static void expect_unsound(uint32_t *words, size_t length, const char *what)
     expect("bin", flourscoop_bin_point(words, length, 1, 0, 0, &value, &other), FLOURSCOOP_UNSOUND, 0, 0);
     expect("bin", flourscoop_bin_pixels_point(words, length, 1, 0, 0, &value, &other), FLOURSCOOP_UNSOUND, 0, 0);
     expect_answers("bin_list", words, length, drawn, DRAWN_WORDS, DRAWN, FLOURSCOOP_UNSOUND, NULL);
-    expect("read", flourscoop_read(words, length, 0, 0, &value), FLOURSCOOP_UNSOUND, 0, 0);
+    expect_read("read", words, length, 0, 0, FLOURSCOOP_UNSOUND, 0, 0);
     expect_mark(words, length, 0, FLOURSCOOP_UNSOUND, 0);
     expect("release", flourscoop_release(words, length, 0, &value), FLOURSCOOP_UNSOUND, 0, 0);
     expect_that(memcmp(words, before, length * sizeof *words) == 0, what);
@@ -232,7 +242,7 @@ static void pool_case(void)
     keep_binned();
     expect_kept("the words after the bin");
     expect_other_layouts_refused();
-    expect("read", flourscoop_read(pool, room, 0, 0, &value), FLOURSCOOP_DONE, 7, 0);
+    expect_read("read", pool, room, 0, 0, FLOURSCOOP_DONE, 7, 0);
     expect_mark(pool, room, 0, FLOURSCOOP_DONE, 1);
     expect("bin (256,256)", flourscoop_bin_point(pool, room, 9, 256, 256, &value, &other), FLOURSCOOP_NO_ROOM, 0, 0);
     expect_kept("the words after the refusal");
@@ -317,6 +327,39 @@ static void shapes(void)
     }
 }
 
+/* M9 with the last id, in units, in pixels and by a draw call: it covers tiles 0 and 1 wholly, and touches five more. */
+static void covered(void)
+{
+    static const int32_t shape[FLOURSCOOP_BIN_WORDS] = {FLOURSCOOP_TRIANGLE, 0, 0, 1024, 0, 0, 512, 16777215};
+    const size_t length = layout->header + 32 + 7 * layout->block_words;
+    static uint32_t words[FLOURSCOOP_ROOM_TWO(WIDTH, HEIGHT, S, 7, 64)];
+    uint32_t *entry = words + layout->header + 32;
+    uint8_t answer = 0xAA;
+    expect("open", open_pool(words, length, WIDTH, HEIGHT, S, 7), FLOURSCOOP_DONE, 0, 0);
+    expect("units", flourscoop_bin_triangle(words, length, 16777215, 0, 0, 1024, 0, 0, 512, &value, &other),
+           FLOURSCOOP_DONE, 7, 7);
+    expect("pixels", flourscoop_bin_pixels_triangle(words, length, 16777215, 0, 0, 64, 0, 0, 32, &value, &other),
+           FLOURSCOOP_DONE, 7, 0);
+    expect("list", flourscoop_bin_list(words, length, shape, FLOURSCOOP_BIN_WORDS, &answer, 1), FLOURSCOOP_DONE, 0, 0);
+    expect_that(answer == FLOURSCOOP_DONE, "the shape of the list is done");
+    for (uint32_t tile = 0; tile < 7; tile++)
+        for (uint32_t place = 0; place < 3; place++) {
+            const uint32_t whole = tile < 2 ? 1 : 0;
+            expect_read("read", words, length, tile, place, FLOURSCOOP_DONE, 16777215, whole);
+            expect_that(entry[tile * layout->block_words + place] == 16777215 + whole * FLOURSCOOP_WHOLE, "the entry");
+        }
+    expect("5", flourscoop_bin_triangle(words, length, FLOURSCOOP_WHOLE, 0, 0, 1024, 0, 0, 512, &value, &other),
+           FLOURSCOOP_ID, 0, 0);
+    /* the last entry that there can be is 33,554,431 */
+    *entry = 33554431;
+    expect_read("read", words, length, 0, 0, FLOURSCOOP_DONE, 16777215, 1);
+    *entry = FLOURSCOOP_WHOLE;
+    expect_read("read", words, length, 0, 0, FLOURSCOOP_DONE, 0, 1);
+    *entry = 33554432;
+    expect_read("read", words, length, 0, 0, FLOURSCOOP_UNSOUND, 0, 0);
+    expect("audit", flourscoop_audit(words, length), FLOURSCOOP_UNSOUND, 0, 0);
+}
+
 /* Bins the shape of eight words by a call of its own. */
 static uint32_t bin_alone(uint32_t *words, size_t length, const int32_t *shape)
 {
@@ -392,10 +435,10 @@ static void draw_calls(void)
     expect_that(memcmp(singly, drawn_answers, sizeof singly) == 0, "the answers are those of single bins");
     expect_that(memcmp(draw_pool, single_pool, draw_room * sizeof *draw_pool) == 0, "and so are the words");
     for (uint32_t tile = 0; tile < 8; tile++)
-        for (uint32_t place = 0; place < 4; place++) {
-            const uint32_t id = drawn_lists[tile][place];
-            expect("read", flourscoop_read(draw_pool, draw_room, tile, place, &value),
-                   id == 0 ? FLOURSCOOP_NO_PLACE : FLOURSCOOP_DONE, id, 0);
+        for (uint32_t place = 0; place < 5; place++) {
+            const uint32_t entry = drawn_lists[tile][place];
+            expect_read("read", draw_pool, draw_room, tile, place, entry == 0 ? FLOURSCOOP_NO_PLACE : FLOURSCOOP_DONE,
+                        entry % FLOURSCOOP_WHOLE, entry / FLOURSCOOP_WHOLE);
         }
     refused_draw_calls();
     expect_that(memcmp(draw_pool, single_pool, draw_room * sizeof *draw_pool) == 0, "the words stay");
@@ -471,10 +514,48 @@ static void questions(void)
     expect("box", flourscoop_box_line(WIDTH, HEIGHT, S, 6, 700, 0, 1024, 300, &value), FLOURSCOOP_DONE, 1, 0);
     expect("box", flourscoop_box_triangle(WIDTH, HEIGHT, S, 6, 700, 0, 1024, 0, 1024, 300, &value), FLOURSCOOP_DONE, 1,
            0);
-    expect("corner", flourscoop_corner_point(WIDTH, HEIGHT, S, 2, 700, 0, &value), FLOURSCOOP_DONE, 1, 0);
-    expect("corner", flourscoop_corner_line(WIDTH, HEIGHT, S, 6, 700, 0, 1024, 300, &value), FLOURSCOOP_DONE, 0, 0);
+    expect("corner", flourscoop_corner_point(WIDTH, HEIGHT, S, 2, 700, 0, &value), FLOURSCOOP_DONE, FLOURSCOOP_PARTLY, 0);
+    expect("corner", flourscoop_corner_line(WIDTH, HEIGHT, S, 6, 700, 0, 1024, 300, &value), FLOURSCOOP_DONE,
+           FLOURSCOOP_APART, 0);
     expect("corner", flourscoop_corner_triangle(WIDTH, HEIGHT, S, 6, 700, 0, 1024, 0, 1024, 300, &value),
-           FLOURSCOOP_DONE, 0, 0);
+           FLOURSCOOP_DONE, FLOURSCOOP_APART, 0);
+}
+
+/* Asks how a triangle covers a tile, with its vertices in two orders, one of each winding. */
+static void expect_cover(const char *name, uint32_t width, uint32_t height, uint32_t tile, const int32_t *shape,
+                         uint32_t cover)
+{
+    const int32_t *a = shape, *b = shape + 2, *c = shape + 4;
+    value = 0xAAAAAAAA;
+    expect(name, flourscoop_corner_triangle(width, height, S, tile, a[0], a[1], b[0], b[1], c[0], c[1], &value),
+           FLOURSCOOP_DONE, cover, 0);
+    value = 0xAAAAAAAA;
+    expect(name, flourscoop_corner_triangle(width, height, S, tile, c[0], c[1], b[0], b[1], a[0], a[1], &value),
+           FLOURSCOOP_DONE, cover, 0);
+}
+
+/* How M8, M9, M11 and M12 cover the tiles, and triangles up to the end of a screen that ends inside its last tiles. */
+static void covers(void)
+{
+    static const struct {
+        const char *name;
+        uint32_t width, height;
+        int32_t shape[6];
+        uint32_t covers[8];
+    } cases[] = {
+        {"M8", WIDTH, HEIGHT, {0, 0, 512, 512, 256, 256}, {1, 1, 0, 0, 1, 1, 1, 0}},
+        {"M9", WIDTH, HEIGHT, {0, 0, 1024, 0, 0, 512}, {2, 2, 1, 1, 1, 1, 1, 0}},
+        {"M9 less a unit", WIDTH, HEIGHT, {0, 0, 1023, 0, 0, 512}, {2, 1, 1, 1, 1, 1, 0, 0}},
+        {"M11", WIDTH, HEIGHT, {700, 0, 1024, 0, 1024, 300}, {0, 0, 1, 1, 0, 0, 0, 1}},
+        {"M12", WIDTH, HEIGHT, {-1000, -1000, 5000, -1000, -1000, 5000}, {2, 2, 2, 2, 2, 2, 2, 2}},
+        {"to the end", 60, HEIGHT, {960, -512, 960, 512, -960, 512}, {2, 2, 2, 2, 2, 2, 2, 2}},
+        {"a unit less", 60, HEIGHT, {959, -512, 959, 512, -961, 512}, {2, 2, 2, 1, 2, 2, 2, 1}},
+    };
+    for (size_t at = 0; at < sizeof cases / sizeof *cases; at++)
+        for (uint32_t tile = 0; tile < 8; tile++)
+            expect_cover(cases[at].name, cases[at].width, cases[at].height, tile, cases[at].shape, cases[at].covers[tile]);
+    expect("corner of no tile", flourscoop_corner_triangle(WIDTH, HEIGHT, S, 8, 0, 0, 1024, 0, 0, 512, &value),
+           FLOURSCOOP_NO_TILE, 0, 0);
 }
 
 /* A point, by both questions and binned in units and in pixels: it should touch this tile alone, or none. */
@@ -488,10 +569,10 @@ static void point_at(uint32_t width, uint32_t height, uint32_t s, uint32_t tile,
     expect(name, flourscoop_corner_point(width, height, s, tile, x, y, &value), FLOURSCOOP_DONE, touches, 0);
     expect(name, flourscoop_open(cut, CUT_WORDS, width, height, s, 1), FLOURSCOOP_DONE, 0, 0);
     expect(name, flourscoop_bin_point(cut, CUT_WORDS, 5, x, y, &value, &other), FLOURSCOOP_DONE, touches, touches);
-    expect(name, flourscoop_read(cut, CUT_WORDS, tile, 0, &value), read, 5 * touches, 0);
+    expect_read(name, cut, CUT_WORDS, tile, 0, read, 5 * touches, 0);
     expect(name, flourscoop_bin_pixels_point(cut, CUT_WORDS, 6, x_pixels, y_pixels, &value, &other), FLOURSCOOP_DONE,
            touches, 0);
-    expect(name, flourscoop_read(cut, CUT_WORDS, tile, 1, &value), read, 6 * touches, 0);
+    expect_read(name, cut, CUT_WORDS, tile, 1, read, 6 * touches, 0);
 }
 
 /* The last tile ends where the screen ends: points there, and a unit past it along each axis. */
@@ -603,7 +684,8 @@ static void refusals(void)
     expect("7", flourscoop_bin_point(pool, room, 1, 262144, 0, &value, &other), FLOURSCOOP_OUT_OF_RANGE, 0, 0);
     expect("9", flourscoop_release(pool, room, 8, &value), FLOURSCOOP_NO_TILE, 0, 0);
     expect("9", flourscoop_high_water(pool, room, 8, &value), FLOURSCOOP_NO_TILE, 0, 0);
-    expect("10", flourscoop_read(pool, room, 0, 0, &value), FLOURSCOOP_NO_PLACE, 0, 0);
+    expect_read("9", pool, room, 8, 0, FLOURSCOOP_NO_TILE, 0, 0);
+    expect_read("10", pool, room, 0, 0, FLOURSCOOP_NO_PLACE, 0, 0);
     expect_kept("the words after the refusals");
 }
 
@@ -666,11 +748,13 @@ int main(void)
         shapes();
         refusals();
         blocks_for_marks();
+        covered();
         draw_calls();
     }
     longest_draw_call();
     units();
     questions();
+    covers();
     ends();
     lists_of_shapes();
     rooms();

@@ -56,7 +56,7 @@ static void bin_list(void)
     number = flourscoop_bin_list(pool, words, bins, sizeof bins / sizeof *bins, answers, sizeof answers);
 }
 static void unit(void) { number = flourscoop_unit(-900.3f, &units); }
-static void read_id(void) { number = flourscoop_read(pool, words, 0, 1, &value); }
+static void read_entry(void) { number = flourscoop_read(pool, words, 0, 1, &value, &other); }
 static void high_water(void) { number = flourscoop_high_water(pool, words, 0, &value); }
 static void release(void) { number = flourscoop_release(pool, words, 0, &value); }
 static void box_point(void) { number = flourscoop_box_point(WIDTH, HEIGHT, S, 0, 9, 9, &value); }
@@ -108,7 +108,7 @@ int main(void)
         {"bin_pixels_triangle", pixels_triangle},
         {"bin_list", bin_list},
         {"unit", unit},
-        {"read", read_id},
+        {"read", read_entry},
         {"high_water", high_water},
         {"release", release},
         {"box_point", box_point},

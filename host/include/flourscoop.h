@@ -1,6 +1,7 @@
 /*
  * Flourscoop: finds the tiles of a screen that points, lines and triangles touch, and keeps for each tile the list of
- * the ids of its shapes, in one pool of 32-bit words that the caller lends. Link libflourscoop.a.
+ * the ids of its shapes, each with whether the shape covers the tile wholly, in one pool of 32-bit words that the caller
+ * lends. Link libflourscoop.a.
  *
  * WHAT EVERY CALL KEEPS TO
  *   - Any argument is safe as long as each pointer is: nothing is assumed of the numbers or of the words in the pool.
@@ -27,7 +28,7 @@
  * STACK, in bytes, as measured, on Arm in an emulator; of those of bin, bin_list and overlaps, 16,384 list the touched
  * tiles
  *               bin      bin_list   overlaps   audit   read    high_water   release   corner   box   open, open_two   unit
- *     x86-64    18,912   18,832     17,248     2,320   2,352   2,352        2,400     352      192   144              16
+ *     x86-64    18,912   18,832     17,104     2,320   2,368   2,352        2,400     352      192   144              16
  *     Arm       18,848   18,800     17,216     2,288   2,320   2,304        2,304     240      160   128              32
  *
  * SCREEN AND UNITS
@@ -44,6 +45,8 @@
  *   off. Where it flushes subnormal numbers to zero, no answer changes.
  *   Vertices may come in any order and may coincide; a triangle without area is its longest side, a line without length
  *   its point.
+ *   A shape covers a tile wholly exactly where all four corners of the tile's rectangle are points of it, its edges and
+ *   vertices included. A point, a line and a triangle without area never do.
  *
  * A LIST OF SHAPES
  *   It is lent to flourscoop_overlaps with seven words to a shape: its kind and six coordinates in units. Those that the
@@ -72,7 +75,9 @@
  *     shape 4    1, 5, 5, 0, 0, 0, 0, -1            5   the id is below 0
  *     shape 5    1, 5, 262144, 0, 0, 0, 0, 11       7   out of range
  *     shape 6    2, 100, 100, 300, 100, 0, 0, 12    0   in tiles 0 and 1, whose blocks have places left
- *   The call returns 0. Tile 0 has the list 7, 9, 12, tile 1 has 9, 12, and tiles 4 and 5 have 9.
+ *     shape 7    3, 0, -129, 0, 385, 511, 128, 13   0   in tiles 0, 1, 4 and 5, of which it covers tile 0 wholly
+ *   The call returns 0. With * behind the id of a shape that covers the tile wholly, tile 0 has the list 7, 9, 12, 13*,
+ *   tile 1 has 9, 12, 13, and tiles 4 and 5 have 9, 13.
  *
  * THE POOL
  *   It is of one of two editions, and every call reads either. With a header of H words and B words to a block, it needs
@@ -91,16 +96,18 @@
  *   Then four words for each tile, tile t from word H + 4*t: entries, link to its first block, link to its last block, and
  *   its mark, the most entries that it had since the opening. A tile that never had an entry has 0, 0, 0, 0, a released one
  *   0, 0, 0 and its mark. A mark is at least the tile's entries and at most (B-1)*blocks.
- *   Then B words for each block, block b from word (word 7) + B*b: B-1 places for ids, then the link to the next block.
+ *   Then B words for each block, block b from word (word 7) + B*b: B-1 places for entries, then the link to the next block.
  *   A tile with q entries has a chain of q/(B-1) blocks, rounded up; its list is the first q places along the chain. The
- *   free blocks are a chain as well. Every block stands in one of these chains, once. An id is 0 to 16,777,215. Each place
- *   without an id, those of free blocks too, holds poison, 0xDEADBEEF.
+ *   free blocks are a chain as well. Every block stands in one of these chains, once. An entry is a shape's id, 0 to
+ *   16,777,215, plus a flag, FLOURSCOOP_WHOLE, 16,777,216, where the shape covers the tile wholly; so it is at most
+ *   33,554,431. Each place without an entry, those of free blocks too, holds poison, 0xDEADBEEF.
  *   Open chains the free blocks in rising order and sets each mark to 0. Bin takes the head of the free chain for a tile
  *   exactly where its number of entries is a multiple of B-1, zero included; where the entries pass the mark, the mark
  *   rises with them. Release gives the blocks back in the order of their chain, each poisoned and made the new head of the
  *   free chain, so that the last of them is taken first. It keeps the mark.
  *   A pool that version 0.3.0 wrote is one of edition one. Words with three to a tile, as versions before that wrote them,
- *   are not a sound pool: calls on them answer 4. Calls of a version before 0.4.0 answer 4 on a pool of edition two.
+ *   are not a sound pool: calls on them answer 4. Calls of a version before 0.4.0 answer 4 on a pool of edition two. Those of
+ *   a version before 0.7.0 answer 4 on a pool with an entry above 16,777,215, and wrote none themselves.
  *
  *   An example: a screen of 64 by 32 with s = 4 has 8 tiles; with 2 blocks it needs 104 words in edition one. Opened, and
  *   then id 7 binned as the point (0,0), which touches tile 0 alone:
@@ -117,6 +124,7 @@
  *     word  14 to  41   0, each
  *     word  42 to 105   7, 62 times poison, 0
  *     word 106 to 169   63 times poison, 0
+ *   In a tile that its shape covers wholly, the entry of id 7 is 16777223.
  *
  * HOW MANY BLOCKS
  *   The marks tell. Open a pool with blocks to spare, make the calls of a frame, and add up the blocks that the marks need:
@@ -140,9 +148,9 @@ extern "C" {
 
 /* The version of this header, and of the archive that goes with it. */
 #define FLOURSCOOP_VERSION_MAJOR 0
-#define FLOURSCOOP_VERSION_MINOR 6
-#define FLOURSCOOP_VERSION_PATCH 1
-#define FLOURSCOOP_VERSION "0.6.1"
+#define FLOURSCOOP_VERSION_MINOR 7
+#define FLOURSCOOP_VERSION_PATCH 0
+#define FLOURSCOOP_VERSION "0.7.0"
 
 /* The numbers; their texts follow. Where several causes apply, each call's comment has the order of looking for them. */
 #define FLOURSCOOP_DONE 0u
@@ -199,6 +207,14 @@ static inline const char *flourscoop_number_text(uint32_t number)
 #define FLOURSCOOP_LINE 2
 #define FLOURSCOOP_TRIANGLE 3
 
+/* The flag of an entry: what its word in the pool has beside the id where the shape covers the tile wholly. */
+#define FLOURSCOOP_WHOLE 16777216u
+
+/* How a shape covers a tile. */
+#define FLOURSCOOP_APART 0u
+#define FLOURSCOOP_PARTLY 1u
+#define FLOURSCOOP_WHOLLY 2u
+
 /*
  * Opens a pool of edition one: all tiles empty, all marks 0, all blocks free. What stood in the words before does not
  * matter.
@@ -215,14 +231,16 @@ uint32_t flourscoop_open_two(uint32_t *pool, size_t words, uint32_t width, uint3
                              uint32_t block_words);
 
 /*
- * Says whether the words are a sound pool: header, chains, counts, marks and ids in range, poison in every unused place.
- * It does not detect an id or a mark in the place of another that could stand there. Every call on a pool does this first.
+ * Says whether the words are a sound pool: header, chains, counts, marks and entries in range, poison in every unused
+ * place. It does not detect an entry or a mark in the place of another that could stand there. Every call on a pool does
+ * this first.
  * Returns 0 for yes, 4 for no.
  */
 uint32_t flourscoop_audit(const uint32_t *pool, size_t words);
 
 /*
- * Appends id to the list of each tile that the shape touches: to all of them or, where there is no room, to none.
+ * Appends id to the list of each tile that the shape touches, with whether it covers the tile wholly: to all of them or,
+ * where there is no room, to none.
  * Writes the number of those tiles and of the blocks taken. A shape off the screen is done with 0 tiles and 0 blocks.
  * Coordinates are in units.
  * Returns 0; or 4, 5, 7, 8, in this order.
@@ -268,10 +286,11 @@ uint32_t flourscoop_bin_list(uint32_t *pool, size_t words, const int32_t *list, 
 uint32_t flourscoop_unit(float v, int32_t *unit);
 
 /*
- * Writes the id at a place of a tile's list. Places count from 0, in the order in which the ids were binned.
+ * Writes the id at a place of a tile's list, without its flag, and 1 where it has the flag, since the shape covers the tile
+ * wholly, else 0. Places count from 0, in the order in which the ids were binned.
  * Returns 0; or 4, 9, 10, in this order.
  */
-uint32_t flourscoop_read(const uint32_t *pool, size_t words, uint32_t tile, uint32_t place, uint32_t *id);
+uint32_t flourscoop_read(const uint32_t *pool, size_t words, uint32_t tile, uint32_t place, uint32_t *id, uint32_t *whole);
 
 /*
  * Writes the most entries that a tile's list had since the opening. A release does not lower it.
@@ -302,24 +321,25 @@ uint32_t flourscoop_box_triangle(uint32_t width, uint32_t height, uint32_t s, ui
                                  uint32_t *touches);
 
 /*
- * The same by the corners of the tile: yes exactly for the tiles that the shape touches.
+ * Says how a shape, in units, covers a tile of a screen, by the corners of the tile. Writes 0 where it does not touch the
+ * tile, which is FLOURSCOOP_APART; 2 where it covers the tile wholly, FLOURSCOOP_WHOLLY; and else 1, FLOURSCOOP_PARTLY.
  * Returns 0; or 1, 9, 7, in this order.
  */
 uint32_t flourscoop_corner_point(uint32_t width, uint32_t height, uint32_t s, uint32_t tile,
                                  int32_t x1, int32_t y1,
-                                 uint32_t *touches);
+                                 uint32_t *cover);
 uint32_t flourscoop_corner_line(uint32_t width, uint32_t height, uint32_t s, uint32_t tile,
                                 int32_t x1, int32_t y1, int32_t x2, int32_t y2,
-                                uint32_t *touches);
+                                uint32_t *cover);
 uint32_t flourscoop_corner_triangle(uint32_t width, uint32_t height, uint32_t s, uint32_t tile,
                                     int32_t x1, int32_t y1, int32_t x2, int32_t y2, int32_t x3, int32_t y3,
-                                    uint32_t *touches);
+                                    uint32_t *cover);
 
 /*
  * Counts the tiles of a screen that the shapes of a list overlap; made for each s, it tells a planner which to choose.
  * Writes how many shapes have all their coordinates in range, and how many have not. Over those in range it writes
- *   - the sum of the tiles that meet a shape's bounding box, and of those that the shape touches, as flourscoop_box_* and
- *     flourscoop_corner_* say of each tile; and their difference, the false overlaps;
+ *   - the sum of the tiles that meet a shape's bounding box, and of those that the shape touches, partly or wholly covered,
+ *     as flourscoop_box_* and flourscoop_corner_* say of each tile; and their difference, the false overlaps;
  *   - the largest number of tiles that one shape touches, and the first place of one that touches so many. Places count all
  *     shapes of the list. With no shape in range both are 0.
  * Returns 0; or 1, 15, in this order.

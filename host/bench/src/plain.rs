@@ -1,9 +1,9 @@
-//! A plain binner to compare with: a vector for each tile, and the same corner test. It refuses nothing, and there is
-//! nothing to audit. It takes shapes one by one or as a list. And the totals of a list of shapes, by the same test.
+//! A plain binner to compare with: a vector of entries for each tile, and the same corner test. It refuses nothing, and there
+//! is nothing to audit. It takes shapes one by one or as a list. And the totals of a list of shapes, by the same test.
 
 use std::ops::Range;
 
-use flourscoop::{Overlaps, Screen, Shape, Vertex, BIN_WORDS, SHAPE_WORDS};
+use flourscoop::{Entry, Overlaps, Screen, Shape, Vertex, BIN_WORDS, SHAPE_WORDS, WHOLE};
 
 pub struct Plain {
     grid: Grid,
@@ -79,18 +79,23 @@ fn edge(a: Vertex, b: Vertex, x: i64, y: i64) -> i64 {
     (x - from_x) * (i64::from(b.y) - from_y) - (y - from_y) * (i64::from(b.x) - from_x)
 }
 
-/// Whether all four corners of a tile lie strictly on the outer side of one of the edges. In line for the binner and for the
-/// totals, as it would be for either alone.
+/// Whether no corner of a tile lies strictly on the outer side of an edge; none where all four corners lie so of one of the
+/// edges. In line for the binner and for the totals, as it would be for either alone.
 #[inline(always)]
-fn apart(v: [Vertex; 3], left: i64, top: i64, wide: i64, high: i64) -> bool {
+fn cover(v: [Vertex; 3], left: i64, top: i64, wide: i64, high: i64) -> Option<bool> {
     let area = edge(v[0], v[1], i64::from(v[2].x), i64::from(v[2].y));
     let corners = [(left, top), (left + wide, top), (left, top + high), (left + wide, top + high)];
-    [(v[0], v[1]), (v[1], v[2]), (v[2], v[0])].into_iter().any(|(a, b)| {
+    let mut whole = area != 0;
+    for (a, b) in [(v[0], v[1]), (v[1], v[2]), (v[2], v[0])] {
         let values = corners.map(|(x, y)| edge(a, b, x, y));
-        let below = values.iter().all(|&value| value < 0);
-        let above = values.iter().all(|&value| value > 0);
-        (area >= 0 && below) || (area <= 0 && above)
-    })
+        let below = values.map(|value| value < 0);
+        let above = values.map(|value| value > 0);
+        if (area >= 0 && below == [true; 4]) || (area <= 0 && above == [true; 4]) {
+            return None;
+        }
+        whole &= if area > 0 { below == [false; 4] } else { above == [false; 4] };
+    }
+    Some(whole)
 }
 
 impl Grid {
@@ -98,17 +103,17 @@ impl Grid {
         Grid { x: Axis::of(screen.width, screen.s), y: Axis::of(screen.height, screen.s) }
     }
 
-    /// Finds each tile that a shape touches; the answer is how many tiles its box meets.
+    /// Finds each tile that a shape touches, and whether it covers that wholly; the answer is how many tiles its box meets.
     #[inline(always)]
-    fn touched(&self, v: [Vertex; 3], mut found: impl FnMut(usize)) -> u64 {
+    fn touched(&self, v: [Vertex; 3], mut found: impl FnMut(usize, bool)) -> u64 {
         let (columns, rows) = (self.x.meeting(v.map(|v| v.x)), self.y.meeting(v.map(|v| v.y)));
         let boxed = [&columns, &rows].map(|along| (along.end - along.start).max(0) as u64);
         for (columns, wide) in self.x.by_length(columns) {
             for row in rows.clone() {
                 let (top, high) = (row * self.y.side, self.y.length(row));
                 for column in columns.clone() {
-                    if !apart(v, column * self.x.side, top, wide, high) {
-                        found((row * self.x.tiles + column) as usize);
+                    if let Some(whole) = cover(v, column * self.x.side, top, wide, high) {
+                        found((row * self.x.tiles + column) as usize, whole);
                     }
                 }
             }
@@ -140,15 +145,16 @@ impl Plain {
     fn bin_vertices(&mut self, id: u32, v: [Vertex; 3]) -> usize {
         let Plain { grid, lists } = self;
         let mut listed = 0;
-        grid.touched(v, |tile| {
-            lists[tile].push(id);
+        grid.touched(v, |tile, whole| {
+            lists[tile].push(if whole { id + WHOLE } else { id });
             listed += 1;
         });
         listed
     }
 
-    pub fn read(&self, tile: u32, place: u32) -> Option<u32> {
-        self.lists.get(tile as usize)?.get(place as usize).copied()
+    pub fn read(&self, tile: u32, place: u32) -> Option<Entry> {
+        let entry = self.lists.get(tile as usize)?.get(place as usize)?;
+        Some(Entry { id: entry % WHOLE, whole: *entry >= WHOLE })
     }
 
     pub fn release(&mut self, tile: u32) {
@@ -169,7 +175,7 @@ pub fn overlaps(screen: Screen, list: &[i32]) -> Overlaps {
         }
         let v = listed_vertices(words.try_into().unwrap());
         let mut touched = 0;
-        box_tiles += grid.touched(v, |_| touched += 1);
+        box_tiles += grid.touched(v, |_, _| touched += 1);
         shapes += 1;
         touched_tiles += u64::from(touched);
         if largest.is_none_or(|(most, _)| most < touched) {
@@ -227,7 +233,31 @@ mod tests {
         plain.bin_list(&list);
         assert_eq!(answers, [0; 403]);
         assert_eq!(lists_in(&words), plain.lists);
-        assert_eq!(plain.lists.iter().flatten().filter(|&&id| id == 402).count(), 8);
+        // the triangle covers all tiles wholly but 6 and 7
+        let entries_of = |entry: u32| plain.lists.iter().flatten().filter(|&&other| other == entry).count();
+        assert_eq!([entries_of(402), entries_of(402 + WHOLE)], [2, 6]);
+    }
+
+    /// Triangles around the last tile, in both windings, are listed as the archive lists them.
+    #[test]
+    fn a_tile_is_wholly_covered_as_by_the_archive() {
+        let (mut words, mut plain) = (opened(64), Plain::open(SCREEN));
+        let vertex = |[x, y]: [i32; 2]| Vertex { x, y };
+        // the last tile has its corners at 768 and 960, and at 256 and 448
+        for by in -2..=2 {
+            for corners in [[[768, 256], [1152, 256], [768, 640]], [[576, 448], [1152, 448], [864, 160]]] {
+                let [a, b, c] = corners.map(vertex);
+                let moved = Vertex { x: c.x, y: c.y + by };
+                for shape in [Shape::Triangle(a, b, moved), Shape::Triangle(b, a, moved), Shape::Triangle(a, b, a)] {
+                    let [tiles, _] = raw::bin(&mut words, 1, shape).done().unwrap();
+                    assert_eq!(plain.bin(1, shape), tiles as usize, "{shape:?}");
+                }
+            }
+        }
+        assert_eq!(lists_in(&words), plain.lists);
+        let whole = plain.lists[7].iter().filter(|&&entry| entry == 1 + WHOLE).count();
+        assert_eq!((whole, plain.lists[7].len()), (12, 30));
+        assert_eq!(plain.read(7, 0), raw::read(&words, 7, 0).done().ok().map(Entry::from));
     }
 
     /// They are listed as the archive lists them.

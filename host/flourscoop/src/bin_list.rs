@@ -52,7 +52,7 @@ impl Pool<'_> {
     /// pool.bin_list(&list, &mut answers)?;
     /// assert_eq!(answers, [0, 8, 7, 0]);
     /// assert_eq!(refused(&answers).collect::<Vec<_>>(), [(1, Refusal::NoRoom), (2, Refusal::OutOfRange)]);
-    /// assert_eq!([pool.read(0, 0)?, pool.read(0, 1)?], [7, 13]);
+    /// assert_eq!([pool.read(0, 0)?.id, pool.read(0, 1)?.id], [7, 13]);
     ///
     /// // three bytes for four shapes, and a list without its last word
     /// assert_eq!(pool.bin_list(&list, &mut answers[..3]), Err(Refusal::Bytes));

@@ -1,7 +1,7 @@
 //! A safe face of libflourscoop.a, the proved tile binner.
 //!
 //! ```
-//! use flourscoop::{room, unit, Pool, Refusal, Screen, Shape, Vertex};
+//! use flourscoop::{room, unit, Entry, Pool, Refusal, Screen, Shape, Vertex};
 //!
 //! let screen = Screen { width: 64, height: 32, s: 4 };
 //! let mut words = vec![0; room(screen, 2)?];
@@ -9,7 +9,7 @@
 //!
 //! let binned = pool.bin(7, Shape::Point(Vertex { x: 0, y: 0 }))?;
 //! assert_eq!((binned.tiles, binned.blocks), (1, 1));
-//! assert_eq!(pool.read(0, 0)?, 7);
+//! assert_eq!(pool.read(0, 0)?, Entry { id: 7, whole: false });
 //!
 //! // four tiles meet in this point, three of them are empty, and one block is free
 //! assert_eq!(pool.bin(9, Shape::Point(Vertex { x: 256, y: 256 })), Err(Refusal::NoRoom));
@@ -25,11 +25,13 @@
 //! ```
 
 mod bin_list;
+mod cover;
 mod overlaps;
 pub mod raw;
 mod refusal;
 
 pub use bin_list::{bin_list_of, refused, BIN_WORDS};
+pub use cover::{box_touches, corner_cover, Cover, Entry, WHOLE};
 pub use overlaps::{list_of, overlaps, Overlaps, MOST_SHAPES, SHAPE_WORDS};
 pub use refusal::Refusal;
 
@@ -40,13 +42,13 @@ pub use refusal::Refusal;
 /// shape past the ends of the screen is in no tile.
 ///
 /// ```
-/// use flourscoop::{corner_touches, Screen, Shape, Vertex};
+/// use flourscoop::{corner_cover, Cover, Screen, Shape, Vertex};
 ///
 /// // tile 3 would reach to 1024, and 60 pixels are 960 units
 /// let screen = Screen { width: 60, height: 32, s: 4 };
-/// let in_tile_3 = |x| corner_touches(screen, 3, Shape::Point(Vertex { x, y: 10 }));
-/// assert_eq!(in_tile_3(960), Ok(true));
-/// assert_eq!(in_tile_3(1000), Ok(false));
+/// let in_tile_3 = |x| corner_cover(screen, 3, Shape::Point(Vertex { x, y: 10 }));
+/// assert_eq!(in_tile_3(960), Ok(Cover::Partly));
+/// assert_eq!(in_tile_3(1000), Ok(Cover::Apart));
 /// ```
 #[derive(Clone, Copy, PartialEq, Eq, Debug)]
 pub struct Screen {
@@ -185,8 +187,8 @@ impl<'a> Pool<'a> {
         raw::audit(self.words).done().is_ok()
     }
 
-    /// Appends the id to the list of each tile that the shape touches, or changes nothing. A shape off the screen is
-    /// accepted, and touches none.
+    /// Appends the id to the list of each tile that the shape touches, with whether it covers the tile wholly, or changes
+    /// nothing. A shape off the screen is accepted, and touches none.
     pub fn bin(&mut self, id: u32, shape: Shape<Vertex>) -> Result<Binned, Refusal> {
         raw::bin(self.words, id, shape).done().map(Binned::from)
     }
@@ -196,9 +198,9 @@ impl<'a> Pool<'a> {
         raw::bin_pixels(self.words, id, shape).done().map(Binned::from)
     }
 
-    /// The id at a place of a tile's list, places counted from 0.
-    pub fn read(&self, tile: u32, place: u32) -> Result<u32, Refusal> {
-        raw::read(self.words, tile, place).done().map(|[id]| id)
+    /// The entry at a place of a tile's list, places counted from 0.
+    pub fn read(&self, tile: u32, place: u32) -> Result<Entry, Refusal> {
+        raw::read(self.words, tile, place).done().map(Entry::from)
     }
 
     /// A tile's mark: the most entries that its list had since the opening.
@@ -223,14 +225,4 @@ impl<'a> Pool<'a> {
 /// The unit of a coordinate in pixels: the whole number nearest to 16 times it, a half to the even one.
 pub fn unit(v: f32) -> Result<i32, Refusal> {
     raw::unit(v).done().map(|[unit]| unit as i32)
-}
-
-/// Whether a tile of a screen, as the screen cuts it, meets the shape's bounding box.
-pub fn box_touches(screen: Screen, tile: u32, shape: Shape<Vertex>) -> Result<bool, Refusal> {
-    raw::box_touches(screen, tile, shape).done().map(|[touches]| touches == 1)
-}
-
-/// Whether the shape touches a tile of a screen, as the screen cuts it.
-pub fn corner_touches(screen: Screen, tile: u32, shape: Shape<Vertex>) -> Result<bool, Refusal> {
-    raw::corner_touches(screen, tile, shape).done().map(|[touches]| touches == 1)
 }

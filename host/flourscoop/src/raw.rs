@@ -9,7 +9,7 @@ extern "C" {
     fn flourscoop_open_two(pool: *mut u32, words: usize, width: u32, height: u32, s: u32, blocks: u32,
         block_words: u32) -> u32;
     fn flourscoop_audit(pool: *const u32, words: usize) -> u32;
-    fn flourscoop_read(pool: *const u32, words: usize, tile: u32, place: u32, id: *mut u32) -> u32;
+    fn flourscoop_read(pool: *const u32, words: usize, tile: u32, place: u32, id: *mut u32, whole: *mut u32) -> u32;
     fn flourscoop_high_water(pool: *const u32, words: usize, tile: u32, entries: *mut u32) -> u32;
     fn flourscoop_release(pool: *mut u32, words: usize, tile: u32, blocks: *mut u32) -> u32;
 
@@ -40,11 +40,11 @@ extern "C" {
         x1: i32, y1: i32, x2: i32, y2: i32, x3: i32, y3: i32, touches: *mut u32) -> u32;
 
     fn flourscoop_corner_point(width: u32, height: u32, s: u32, tile: u32,
-        x1: i32, y1: i32, touches: *mut u32) -> u32;
+        x1: i32, y1: i32, cover: *mut u32) -> u32;
     fn flourscoop_corner_line(width: u32, height: u32, s: u32, tile: u32,
-        x1: i32, y1: i32, x2: i32, y2: i32, touches: *mut u32) -> u32;
+        x1: i32, y1: i32, x2: i32, y2: i32, cover: *mut u32) -> u32;
     fn flourscoop_corner_triangle(width: u32, height: u32, s: u32, tile: u32,
-        x1: i32, y1: i32, x2: i32, y2: i32, x3: i32, y3: i32, touches: *mut u32) -> u32;
+        x1: i32, y1: i32, x2: i32, y2: i32, x3: i32, y3: i32, cover: *mut u32) -> u32;
 
     fn flourscoop_overlaps(list: *const i32, words: usize, width: u32, height: u32, s: u32,
         shapes: *mut u32, out_of_range: *mut u32, box_tiles: *mut u64, touched_tiles: *mut u64, difference: *mut u64,
@@ -124,9 +124,9 @@ pub fn bin_list(pool: &mut [u32], list: &[i32], answers: &mut [u8]) -> Answer<[u
     })
 }
 
-/// Reads the id at a place of a tile's list. Value: the id. Numbers: 0, 4, 9, 10.
-pub fn read(pool: &[u32], tile: u32, place: u32) -> Answer<[u32; 1]> {
-    answer(|[id]| unsafe { flourscoop_read(pool.as_ptr(), pool.len(), tile, place, id) })
+/// Reads the entry at a place of a tile's list. Values: the id; 1 where it has the flag, else 0. Numbers: 0, 4, 9, 10.
+pub fn read(pool: &[u32], tile: u32, place: u32) -> Answer<[u32; 2]> {
+    answer(|[id, whole]| unsafe { flourscoop_read(pool.as_ptr(), pool.len(), tile, place, id, whole) })
 }
 
 /// The most entries that a tile's list had since the opening. Value: that number. Numbers: 0, 4, 9.
@@ -153,12 +153,12 @@ pub fn box_touches(screen: Screen, tile: u32, shape: Shape<Vertex>) -> Answer<[u
     })
 }
 
-/// Whether a shape touches a tile. Value: 1 for yes, 0 for no. Numbers: 0, 1, 7, 9.
-pub fn corner_touches(screen: Screen, tile: u32, shape: Shape<Vertex>) -> Answer<[u32; 1]> {
+/// How a shape covers a tile. Value: 0 for apart, 1 for partly, 2 for wholly. Numbers: 0, 1, 7, 9.
+pub fn corner_cover(screen: Screen, tile: u32, shape: Shape<Vertex>) -> Answer<[u32; 1]> {
     let Screen { width, height, s } = screen;
-    answer(|[touches]| {
+    answer(|[cover]| {
         call!(flourscoop_corner_point flourscoop_corner_line flourscoop_corner_triangle:
-            (width, height, s, tile) shape (touches))
+            (width, height, s, tile) shape (cover))
     })
 }
 

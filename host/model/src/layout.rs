@@ -75,7 +75,7 @@ impl Layout {
         self.tile_at(screen.tiles()) + self.words_of_block() * block as usize
     }
 
-    /// Where the id places of a block stand.
+    /// Where the places of a block for entries stand.
     pub fn places_at(self, screen: Screen, block: u32) -> Range<usize> {
         let start = self.block_at(screen, block);
         start..start + self.ids_of_block()

@@ -2,6 +2,7 @@
 
 use crate::number;
 use crate::overlaps::Totals;
+use crate::pool::WHOLE;
 
 /// A list, and its totals or the number of its refusal.
 pub struct Listed {
@@ -54,7 +55,7 @@ pub const LISTED: [Listed; 16] = [
 ];
 
 /// A list with ids, binned in a pool of so many blocks that was just opened: the number of each shape or that of the refusal of
-/// them all, and the list of each tile afterwards.
+/// them all, and the entries of each tile afterwards.
 pub struct Drawn {
     pub name: &'static str,
     pub blocks: u32,
@@ -109,7 +110,16 @@ const CAUSES: &[i32] = &[
     3, -1, 0, -1, 0, -1, 262_143, 1,
 ];
 
-pub const DRAWN: [Drawn; 18] = [
+#[rustfmt::skip]
+const COVERS: &[i32] = &[
+    3, 0, 0, 1024, 0, 0, 512, 1,
+    3, 0, 0, 0, 512, 1024, 0, 16_777_215,
+    3, -1000, -1000, 5000, -1000, -1000, 5000, 16_777_216,
+    3, -1000, -1000, 5000, -1000, -1000, 5000, 0,
+    3, 0, 0, 512, 512, 256, 256, 2,
+];
+
+pub const DRAWN: [Drawn; 19] = [
     drawn("no shape", 2, &[], &[], &[]),
     drawn("no shape and no block", 0, &[], &[], &[]),
     drawn("the pool case", 2, &[1, 0, 0, 0, 0, 0, 0, 7, 1, 256, 256, 0, 0, 0, 0, 9], &[0, 8], &[7]),
@@ -126,6 +136,22 @@ pub const DRAWN: [Drawn; 18] = [
         list: RUNS_OUT,
         answers: Ok(&[0, 8, 0, 8, 8, 0, 0]),
         lists: [&[1, 7], &[1, 7], NONE, NONE, NONE, NONE, NONE, &[3]],
+    },
+    Drawn {
+        name: "tiles partly and wholly covered",
+        blocks: 8,
+        list: COVERS,
+        answers: Ok(&[0, 0, 5, 0, 0]),
+        lists: [
+            &[WHOLE + 1, WHOLE + 16_777_215, WHOLE, 2],
+            &[WHOLE + 1, WHOLE + 16_777_215, WHOLE, 2],
+            &[1, 16_777_215, WHOLE],
+            &[1, 16_777_215, WHOLE],
+            &[1, 16_777_215, WHOLE, 2],
+            &[1, 16_777_215, WHOLE, 2],
+            &[1, 16_777_215, WHOLE, 2],
+            &[WHOLE],
+        ],
     },
     drawn("ids at both ends and past them", 1, IDS, &[5, 0, 5, 0, 5, 5], &[0, 16_777_215]),
     drawn("an id before a coordinate, and that before the room", 0, CAUSES, &[5, 7, 8, 0], &[]),

@@ -7,16 +7,30 @@ use crate::Vertex;
 /// The screen of the marked cases.
 pub const SCREEN: Screen = Screen { width: 64, height: 32, s: 4 };
 
-/// A shape, the tiles that it touches, and those that its box meets.
+/// A shape, the tiles that it touches, those that its box meets, and those that it covers wholly.
 pub struct Marked {
     pub name: &'static str,
     pub shape: &'static [Vertex],
     pub tiles: &'static [u32],
     pub boxed: &'static [u32],
+    pub whole: &'static [u32],
 }
 
+const ALL: &[u32] = &[0, 1, 2, 3, 4, 5, 6, 7];
+
+/// A shape that covers no tile wholly.
 const fn marked(name: &'static str, shape: &'static [Vertex], tiles: &'static [u32], boxed: &'static [u32]) -> Marked {
-    Marked { name, shape, tiles, boxed }
+    Marked { name, shape, tiles, boxed, whole: &[] }
+}
+
+/// A shape that covers these tiles wholly, and whose box meets all.
+const fn covering(
+    name: &'static str,
+    shape: &'static [Vertex],
+    tiles: &'static [u32],
+    whole: &'static [u32],
+) -> Marked {
+    Marked { name, shape, tiles, boxed: ALL, whole }
 }
 
 pub const MARKED: [Marked; 12] = [
@@ -28,15 +42,10 @@ pub const MARKED: [Marked; 12] = [
     marked("M6", &[[100, 100], [300, 100]], &[0, 1], &[0, 1]),
     marked("M7", &[[0, 0], [512, 512]], &[0, 1, 4, 5, 6], &[0, 1, 2, 4, 5, 6]),
     marked("M8", &[[0, 0], [512, 512], [256, 256]], &[0, 1, 4, 5, 6], &[0, 1, 2, 4, 5, 6]),
-    marked("M9", &[[0, 0], [1024, 0], [0, 512]], &[0, 1, 2, 3, 4, 5, 6], &[0, 1, 2, 3, 4, 5, 6, 7]),
-    marked("M10", &[[0, 0], [0, 512], [1024, 0]], &[0, 1, 2, 3, 4, 5, 6], &[0, 1, 2, 3, 4, 5, 6, 7]),
+    covering("M9", &[[0, 0], [1024, 0], [0, 512]], &[0, 1, 2, 3, 4, 5, 6], &[0, 1]),
+    covering("M10", &[[0, 0], [0, 512], [1024, 0]], &[0, 1, 2, 3, 4, 5, 6], &[0, 1]),
     marked("M11", &[[700, 0], [1024, 0], [1024, 300]], &[2, 3, 7], &[2, 3, 6, 7]),
-    marked(
-        "M12",
-        &[[-1000, -1000], [5000, -1000], [-1000, 5000]],
-        &[0, 1, 2, 3, 4, 5, 6, 7],
-        &[0, 1, 2, 3, 4, 5, 6, 7],
-    ),
+    covering("M12", &[[-1000, -1000], [5000, -1000], [-1000, 5000]], ALL, ALL),
 ];
 
 /// A screen of s = 4 that ends inside its last tiles, and cases on it.
@@ -62,6 +71,13 @@ pub const CUT: [Cut; 3] = [
             marked("(960,512)", &[[960, 512]], &[7], &[7]),
             marked("a line that leaves the glass", &[[900, 10], [1000, 10]], &[3], &[3]),
             marked("a line past the glass", &[[961, 10], [1000, 500]], &[], &[]),
+            covering("a triangle up to the end of the glass", &[[960, -512], [960, 512], [-960, 512]], ALL, ALL),
+            covering(
+                "a triangle up to a unit before it",
+                &[[959, -512], [959, 512], [-961, 512]],
+                ALL,
+                &[0, 1, 2, 4, 5, 6],
+            ),
         ],
     ),
     cut(
@@ -75,6 +91,8 @@ pub const CUT: [Cut; 3] = [
             marked("(1024,448)", &[[1024, 448]], &[7], &[7]),
             marked("a line that leaves the glass", &[[10, 300], [10, 500]], &[4], &[4]),
             marked("a line past the glass", &[[10, 449], [1000, 500]], &[], &[]),
+            covering("a triangle up to the end of the glass", &[[-448, 448], [1472, 448], [512, -512]], ALL, ALL),
+            covering("a triangle up to a unit before it", &[[-447, 447], [1471, 447], [512, -512]], ALL, &[0, 1, 2, 3]),
         ],
     ),
     cut(
@@ -88,12 +106,9 @@ pub const CUT: [Cut; 3] = [
             marked("a line through the corner", &[[952, 456], [968, 440]], &[7], &[7]),
             marked("a line a unit past the corner", &[[953, 456], [969, 440]], &[], &[7]),
             marked("a triangle beside the corner", &[[1000, 408], [920, 489], [1000, 500]], &[], &[7]),
-            marked(
-                "a triangle over all",
-                &[[0, 0], [2000, 0], [0, 2000]],
-                &[0, 1, 2, 3, 4, 5, 6, 7],
-                &[0, 1, 2, 3, 4, 5, 6, 7],
-            ),
+            covering("a triangle over all", &[[0, 0], [2000, 0], [0, 2000]], ALL, ALL),
+            covering("a triangle through the corner", &[[0, 0], [1408, 0], [0, 1408]], ALL, ALL),
+            covering("a triangle short of the corner", &[[0, 0], [1407, 0], [0, 1407]], ALL, &[0, 1, 2, 3, 4, 5, 6]),
         ],
     ),
 ];

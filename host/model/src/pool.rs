@@ -3,30 +3,35 @@
 use std::collections::{BTreeMap, VecDeque};
 use std::fmt;
 
+use crate::cover::{covered, Cover};
 use crate::layout::Layout;
 use crate::runs::Runs;
 use crate::screen::Screen;
-use crate::touch::{in_range, touched};
+use crate::touch::in_range;
 use crate::unit::units;
 use crate::{number, Pixel, Vertex};
 
 pub const MOST_BLOCKS: u32 = 2048;
 pub const MOST_ID: u32 = 16_777_215;
+/// The flag of an entry: what it has beside the id where its tile is wholly covered.
+pub const WHOLE: u32 = 16_777_216;
+pub const MOST_ENTRY: u32 = 33_554_431;
 pub const POISON: u32 = 0xDEAD_BEEF;
 
-/// A tile: the blocks of its chain and the ids of its list, both in order, and its mark.
+/// A tile: the blocks of its chain and the entries of its list, both in order, and its mark.
 #[derive(Clone, Default, PartialEq, Eq)]
 pub struct Tile {
     pub blocks: Vec<u32>,
-    pub ids: Vec<u32>,
+    pub entries: Vec<u32>,
     /// the most entries that the list had since the opening
     pub mark: u32,
 }
 
 impl fmt::Debug for Tile {
     fn fmt(&self, f: &mut fmt::Formatter) -> fmt::Result {
-        let Tile { blocks, ids, mark } = self;
-        f.debug_struct("Tile").field("blocks", &Runs(blocks)).field("ids", &Runs(ids)).field("mark", mark).finish()
+        let Tile { blocks, entries, mark } = self;
+        let mut tile = f.debug_struct("Tile");
+        tile.field("blocks", &Runs(blocks)).field("entries", &Runs(entries)).field("mark", mark).finish()
     }
 }
 
@@ -70,9 +75,9 @@ pub enum Fault {
     Free,
     /// a block does not stand in exactly one chain, once
     Once,
-    /// one of the first q places of a chain holds no id in range
+    /// one of the first q places of a chain holds no id in range, with the flag or without
     Id,
-    /// another id place does not hold poison
+    /// another place does not hold poison
     Poison,
     /// a mark is below the entries of its tile, or above what all blocks hold
     Mark,
@@ -107,7 +112,7 @@ impl Reading<'_> {
         Ok(chain)
     }
 
-    /// The id places of a chain, one block after the other.
+    /// The places of a chain, one block after the other.
     fn places(&self, chain: &[u32]) -> Vec<u32> {
         let places = |&block| &self.words[self.layout.places_at(self.screen, block)];
         chain.iter().flat_map(places).copied().collect()
@@ -117,27 +122,27 @@ impl Reading<'_> {
     fn tile(&self, tile: u32) -> Result<Tile, Fault> {
         let ids_of_block = self.layout.ids_of_block();
         let at = self.layout.tile_at(tile);
-        let entries = self.words[at] as usize;
+        let count = self.words[at] as usize;
         let chain = self.chain(self.words[at + 1])?;
-        if chain.len() != entries.div_ceil(ids_of_block) {
+        if chain.len() != count.div_ceil(ids_of_block) {
             return Err(Fault::Entries);
         }
         if self.words[at + 2] != link(chain.last()) {
             return Err(Fault::Last);
         }
         let places = self.places(&chain);
-        let (ids, rest) = places.split_at(entries);
-        if ids.iter().any(|&id| id > MOST_ID) {
+        let (entries, rest) = places.split_at(count);
+        if entries.iter().any(|&entry| entry > MOST_ENTRY) {
             return Err(Fault::Id);
         }
         if rest.iter().any(|&word| word != POISON) {
             return Err(Fault::Poison);
         }
         let mark = self.words[self.layout.mark_at(tile)];
-        if !(entries..=ids_of_block * self.blocks as usize).contains(&(mark as usize)) {
+        if !(count..=ids_of_block * self.blocks as usize).contains(&(mark as usize)) {
             return Err(Fault::Mark);
         }
-        Ok(Tile { blocks: chain, ids: ids.to_vec(), mark })
+        Ok(Tile { blocks: chain, entries: entries.to_vec(), mark })
     }
 }
 
@@ -167,30 +172,35 @@ impl State {
         self.tiles.iter().map(|tile| tile.blocks.len()).max().unwrap_or(0)
     }
 
+    /// How many entries have the flag.
+    pub fn whole_entries(&self) -> usize {
+        self.tiles.iter().flat_map(|tile| &tile.entries).filter(|&&entry| entry >= WHOLE).count()
+    }
+
     /// All words of the pool.
     pub fn words(&self) -> Vec<u32> {
         let Screen { width, height, s } = self.screen;
         let mut words = vec![width, height, s, self.blocks, self.free.len() as u32, link(self.free.front())];
         words.extend(self.layout.from_word_6(self.screen));
         for tile in &self.tiles {
-            words.extend([tile.ids.len() as u32, link(tile.blocks.first()), link(tile.blocks.last()), tile.mark]);
+            words.extend([tile.entries.len() as u32, link(tile.blocks.first()), link(tile.blocks.last()), tile.mark]);
         }
         words.resize(self.layout.room(self.screen, self.blocks), POISON);
         let free: Vec<u32> = self.free.iter().copied().collect();
         self.write_chain(&mut words, &free, &[]);
         for tile in &self.tiles {
-            self.write_chain(&mut words, &tile.blocks, &tile.ids);
+            self.write_chain(&mut words, &tile.blocks, &tile.entries);
         }
         words
     }
 
-    /// Writes the ids and the links of a chain.
-    fn write_chain(&self, words: &mut [u32], chain: &[u32], ids: &[u32]) {
+    /// Writes the entries and the links of a chain.
+    fn write_chain(&self, words: &mut [u32], chain: &[u32], entries: &[u32]) {
         for (k, &block) in chain.iter().enumerate() {
             words[self.layout.link_at(self.screen, block)] = link(chain.get(k + 1));
         }
-        for (&block, ids) in chain.iter().zip(ids.chunks(self.layout.ids_of_block())) {
-            words[self.layout.places_at(self.screen, block)][..ids.len()].copy_from_slice(ids);
+        for (&block, held) in chain.iter().zip(entries.chunks(self.layout.ids_of_block())) {
+            words[self.layout.places_at(self.screen, block)][..held.len()].copy_from_slice(held);
         }
     }
 
@@ -232,22 +242,22 @@ impl State {
         if !in_range(shape) {
             return Err(number::OUT_OF_RANGE);
         }
-        let touched = touched(self.screen, shape);
+        let covered = covered(self.screen, shape);
         let ids_of_block = self.layout.ids_of_block();
-        let takes_block = |tile: &Tile| tile.ids.len() % ids_of_block == 0;
-        let need = touched.iter().filter(|&&tile| takes_block(&self.tiles[tile as usize])).count();
+        let takes_block = |tile: &Tile| tile.entries.len() % ids_of_block == 0;
+        let need = covered.iter().filter(|&&(tile, _)| takes_block(&self.tiles[tile as usize])).count();
         if need > self.free.len() {
             return Err(number::NO_ROOM);
         }
-        for &number in &touched {
+        for &(number, cover) in &covered {
             let tile = &mut self.tiles[number as usize];
             if takes_block(tile) {
                 tile.blocks.extend(self.free.pop_front());
             }
-            tile.ids.push(id);
-            tile.mark = tile.mark.max(tile.ids.len() as u32);
+            tile.entries.push(if cover == Cover::Wholly { id + WHOLE } else { id });
+            tile.mark = tile.mark.max(tile.entries.len() as u32);
         }
-        Ok([touched.len() as u32, need as u32])
+        Ok([covered.len() as u32, need as u32])
     }
 
     /// The same of a shape in pixels.
@@ -258,10 +268,11 @@ impl State {
         self.bin(id, &units(shape)?)
     }
 
-    /// The id at a place of a tile's list.
-    pub fn id_at(&self, tile: u32, place: u32) -> Result<u32, u32> {
+    /// The id at a place of a tile's list, and 1 where it has the flag, else 0.
+    pub fn entry_at(&self, tile: u32, place: u32) -> Result<[u32; 2], u32> {
         let tile = self.tiles.get(tile as usize).ok_or(number::NO_TILE)?;
-        tile.ids.get(place as usize).copied().ok_or(number::NO_PLACE)
+        let &entry = tile.entries.get(place as usize).ok_or(number::NO_PLACE)?;
+        Ok(entry.checked_sub(WHOLE).map_or([entry, 0], |id| [id, 1]))
     }
 
     /// The mark of a tile.
@@ -272,7 +283,7 @@ impl State {
     /// The blocks that a tile gives back, each made the new head of the free chain. The tile keeps its mark.
     pub fn release(&mut self, tile: u32) -> Result<u32, u32> {
         let tile = self.tiles.get_mut(tile as usize).ok_or(number::NO_TILE)?;
-        tile.ids.clear();
+        tile.entries.clear();
         let blocks = std::mem::take(&mut tile.blocks);
         for &block in &blocks {
             self.free.push_front(block);

@@ -78,13 +78,8 @@ pub fn touched(screen: Screen, shape: &[Vertex]) -> Vec<u32> {
     (0..screen.tiles()).filter(|&tile| touches(shape, screen.rectangle(tile))).collect()
 }
 
-/// The answer to the question whether a shape touches a tile of a screen, where `way` is `touches` or `box_meets`.
-pub fn question(
-    screen: Screen,
-    tile: u32,
-    shape: &[Vertex],
-    way: fn(&[Vertex], Rectangle) -> bool,
-) -> Result<bool, u32> {
+/// The answer to a question on a shape and a tile of a screen, where `way` is `box_meets` or `cover`.
+pub fn question<A>(screen: Screen, tile: u32, shape: &[Vertex], way: fn(&[Vertex], Rectangle) -> A) -> Result<A, u32> {
     if !screen.allowed() {
         return Err(number::SCREEN);
     }

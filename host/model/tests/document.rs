@@ -1,20 +1,26 @@
-//! The model gives what document 01 and requests P1, P2, P4, P8 and P12 list.
+//! The model gives what document 01 and requests P1, P2, P4, P6, P8 and P12 list.
 
+use model::cover::{cover, Cover};
 use model::layout::{Layout, LAYOUTS};
 use model::listed::{Drawn, Listed, DRAWN, LISTED};
 use model::marked::{Cut, Marked, PoolCase, CUT, MARKED, POOL_CASES, SCREEN};
 use model::number;
 use model::overlaps::overlaps;
-use model::pool::{Fault, State, POISON};
-use model::screen::Screen;
+use model::pool::{Fault, State, MOST_ENTRY, POISON};
+use model::screen::{Rectangle, Screen};
 use model::shapes::{faults, Fault as ListFault, WORDS_OF_BIN, WORDS_OF_SHAPE};
 use model::touch::{box_meets, touched};
 use model::unit::{unit, TABLE};
 
 fn check(screen: Screen, case: &Marked) {
-    let boxed: Vec<u32> = (0..screen.tiles()).filter(|&tile| box_meets(case.shape, screen.rectangle(tile))).collect();
+    let tiles = |meets: &dyn Fn(Rectangle) -> bool| -> Vec<u32> {
+        (0..screen.tiles()).filter(|&tile| meets(screen.rectangle(tile))).collect()
+    };
     assert_eq!(touched(screen, case.shape), case.tiles, "{} on {screen:?}", case.name);
+    let boxed = tiles(&|rectangle| box_meets(case.shape, rectangle));
     assert_eq!(boxed, case.boxed, "the box of {} on {screen:?}", case.name);
+    let whole = tiles(&|rectangle| cover(case.shape, rectangle) == Cover::Wholly);
+    assert_eq!(whole, case.whole, "{} on {screen:?}", case.name);
 }
 
 #[test]
@@ -76,7 +82,7 @@ fn lists_with_ids() {
             }
             assert_eq!(pool, opened, "{name}");
             assert_eq!(pool.bin_list(list, shapes), answers.map(<[u8]>::to_vec), "{name}");
-            assert_eq!(pool.tiles.iter().map(|tile| &tile.ids[..]).collect::<Vec<_>>(), lists, "{name}");
+            assert_eq!(pool.tiles.iter().map(|tile| &tile.entries[..]).collect::<Vec<_>>(), lists, "{name}");
         }
     }
 }
@@ -123,6 +129,27 @@ fn a_block_holds_all_its_words_but_the_last() {
         }
         assert_eq!(pool.tiles[0].blocks, [0, 1, 2]);
         assert_eq!(State::read(&pool.words()), Ok(pool));
+    }
+}
+
+#[test]
+fn an_entry_is_an_id_and_whether_its_tile_is_wholly_covered() {
+    for layout in LAYOUTS {
+        let mut pool = State::opened(layout, SCREEN, 1);
+        pool.bin(7, &[[0, 0]]).unwrap();
+        let with = |entry| {
+            let mut words = pool.words();
+            words[layout.block_at(SCREEN, 0)] = entry;
+            State::read(&words).map(|pool| pool.entry_at(0, 0))
+        };
+        for (entry, id, whole) in
+            [(0, 0, 0), (16_777_215, 16_777_215, 0), (16_777_216, 0, 1), (MOST_ENTRY, 16_777_215, 1)]
+        {
+            assert_eq!(with(entry), Ok(Ok([id, whole])), "{entry}");
+        }
+        for entry in [33_554_432, 1 << 26, 1 << 31, POISON, u32::MAX] {
+            assert_eq!(with(entry), Err(Fault::Id), "{entry}");
+        }
     }
 }
 

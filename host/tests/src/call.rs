@@ -4,10 +4,11 @@ use std::borrow::Cow;
 
 use flourscoop::raw::{self, Answer};
 use flourscoop::Shape;
+use model::cover::{cover, Cover};
 use model::layout::{Layout, LAYOUTS};
 use model::pool::State;
 use model::screen::Screen;
-use model::touch::{box_meets, question, touches};
+use model::touch::{box_meets, question};
 use model::{number, Pixel, Vertex};
 
 use crate::answers::{no_room, Answers};
@@ -100,7 +101,7 @@ impl Call {
 
     /// Reads of the longest list: in its middle, at its last place and past it.
     pub fn reads_of_longest(state: &State) -> [Call; 3] {
-        let entries = |&tile: &u32| state.tiles[tile as usize].ids.len() as u32;
+        let entries = |&tile: &u32| state.tiles[tile as usize].entries.len() as u32;
         let longest = (0..state.screen.tiles()).max_by_key(entries).unwrap_or(0);
         let entries = entries(&longest);
         [entries / 2, entries.saturating_sub(1), entries].map(|place| Call::Read { tile: longest, place })
@@ -225,27 +226,29 @@ fn expected<const VALUES: usize>(answer: Result<[u32; VALUES], u32>) -> Outcome 
     })
 }
 
-/// The answers to the question whether a shape touches a tile, by box and by corner.
+/// The answers to the questions whether a shape's box meets a tile, and how the shape covers it.
+#[derive(Clone, Copy, PartialEq, Eq, Debug)]
 pub struct Asked {
     pub boxed: Result<bool, u32>,
-    pub touched: Result<bool, u32>,
+    pub cover: Result<Cover, u32>,
 }
 
 /// Asks the archive and the model both questions, and compares their answers.
 pub fn ask(screen: Screen, tile: u32, shape: &[Vertex]) -> Result<Asked, String> {
-    let [boxed, touched] = [box_meets, touches].map(|way| question(screen, tile, shape, way));
+    let boxed = question(screen, tile, shape, box_meets);
+    let cover = question(screen, tile, shape, cover);
     let (archive_screen, archive_shape) = (screen_of(screen), shape_of(shape));
     let ways = [
-        ("box", raw::box_touches(archive_screen, tile, archive_shape), boxed),
-        ("corner", raw::corner_touches(archive_screen, tile, archive_shape), touched),
+        ("box", raw::box_touches(archive_screen, tile, archive_shape), boxed.map(u32::from)),
+        ("corner", raw::corner_cover(archive_screen, tile, archive_shape), cover.map(|cover| cover as u32)),
     ];
     for (way, archive, model) in ways {
-        let (archive, model) = (outcome(archive), expected(model.map(|yes| [u32::from(yes)])));
+        let (archive, model) = (outcome(archive), expected(model.map(|value| [value])));
         if archive != model {
             return Err(format!("{way}: the archive gives {archive:?}, the model {model:?}"));
         }
     }
-    Ok(Asked { boxed, touched })
+    Ok(Asked { boxed, cover })
 }
 
 /// Words lent to the archive, and what the model says of them.
@@ -302,7 +305,7 @@ impl Slot {
                 answers[..numbers.len()].copy_from_slice(&numbers);
                 []
             })),
-            &Call::Read { tile, place } => expected(state.id_at(tile, place).map(|id| [id])),
+            &Call::Read { tile, place } => expected(state.entry_at(tile, place)),
             &Call::HighWater { tile } => expected(state.high_water(tile).map(|mark| [mark])),
             &Call::Release { tile } => expected(state.release(tile).map(|blocks| [blocks])),
         }

@@ -1,7 +1,7 @@
 //! Screens, shapes and pools, most of them where an answer turns.
 
 use model::layout::{Layout, LAYOUTS};
-use model::pool::{State, Tile, MOST_ID};
+use model::pool::{State, Tile, MOST_ENTRY, MOST_ID, WHOLE};
 use model::screen::{Rectangle, Screen};
 use model::{Pixel, Vertex, UNITS};
 
@@ -143,12 +143,10 @@ fn along(from: Vertex, step: [i64; 2], times: i64) -> Vertex {
     }
 }
 
-/// A shape of so many vertices that meets a tile in a corner or in part of a side: a point there, a line, or a triangle
-/// of which an edge is that line and the third vertex lies on it or on the side away from the tile.
-fn against(random: &Random, rectangle: Rectangle, vertices: usize) -> Vec<Vertex> {
-    let reach = random.pick(&[1, 3, 40, 5000, 262_143]);
+/// A line that meets a tile in a corner or in part of a side: a vertex there, the normal of the line, which points away from
+/// the tile and reaches so far along each axis, and the step along the line.
+fn line_at(random: &Random, rectangle: Rectangle, reach: i32) -> (Vertex, [i64; 2], [i64; 2]) {
     let sides = [[rectangle.left, rectangle.right], [rectangle.top, rectangle.bottom]];
-    // where the line meets the tile, and its normal there, which points away from the tile
     let (mut corner, mut away) = ([0; 2], [0; 2]);
     for axis in 0..2 {
         let slant = random.from_to(-reach, reach);
@@ -160,7 +158,14 @@ fn against(random: &Random, rectangle: Rectangle, vertices: usize) -> Vec<Vertex
             _ => high,
         };
     }
-    let on_line = [away[1], -away[0]];
+    (corner, away, [away[1], -away[0]])
+}
+
+/// A shape of so many vertices that meets a tile in a corner or in part of a side: a point there, a line, or a triangle
+/// of which an edge is that line and the third vertex lies on it or on the side away from the tile.
+fn against(random: &Random, rectangle: Rectangle, vertices: usize) -> Vec<Vertex> {
+    let reach = random.pick(&[1, 3, 40, 5000, 262_143]);
+    let (corner, away, on_line) = line_at(random, rectangle, reach);
     let times = || i64::from(random.below(random.pick(&[2, 40, 5000])));
     let one = along(corner, on_line, times());
     let other = along(corner, on_line, -times());
@@ -177,6 +182,35 @@ fn against(random: &Random, rectangle: Rectangle, vertices: usize) -> Vec<Vertex
     }
 }
 
+/// A triangle of which an edge meets a tile in a corner or in part of a side, the third vertex on the side of the tile; so
+/// long and so high that it most often covers the tile wholly.
+fn over_edge(random: &Random, rectangle: Rectangle) -> Vec<Vertex> {
+    let Rectangle { left, right, top, bottom } = rectangle;
+    let reach = random.pick(&[1, 3, 40, 1000]);
+    let (corner, away, on_line) = line_at(random, rectangle, reach);
+    let step = away[0].abs().max(away[1].abs()).max(1);
+    let times = || 1 + random.pick(&[1, 2, 4, 16]) * (right - left).max(bottom - top) / step;
+    let inwards = along(corner, away, -times());
+    let [one, other] = [times(), -times()].map(|times| along(corner, on_line, times));
+    vec![one, other, along(inwards, on_line, random.pick(&[0, times(), -times()]))]
+}
+
+/// A triangle that covers a tile wholly, with a right angle at a corner of it or outside that, and its long side through the
+/// opposite corner.
+fn over_corners(random: &Random, rectangle: Rectangle) -> Vec<Vertex> {
+    // along an axis the right angle and the opposite corner
+    let ends = |low: i64, high: i64| {
+        let (from, to) = random.pick(&[(low, high), (high, low)]);
+        let outside = i64::from(random.pick(&[0, 0, 1, random.below(300)]));
+        [from - (to - from).signum() * outside, to]
+    };
+    let ([x, to_x], [y, to_y]) = (ends(rectangle.left, rectangle.right), ends(rectangle.top, rectangle.bottom));
+    // that corner parts the long side as this is to 1
+    let parts = Some(random.pick(&[1, 1, 2, 4, 8, 16])).filter(|parts| (to_y - y) % parts == 0).unwrap_or(1);
+    let (far_x, far_y) = (x + (to_x - x) * (parts + 1), y + (to_y - y) / parts * (parts + 1));
+    [[x, y], [far_x, y], [x, far_y]].map(|vertex| vertex.map(|along| along as i32)).to_vec()
+}
+
 /// A shape in range that lies at a tile so that its answer often turns on one unit.
 pub fn shape(random: &Random, screen: Screen, tile: u32) -> Vec<Vertex> {
     let (rectangle, square) = (screen.rectangle(tile), square(screen, tile));
@@ -189,6 +223,8 @@ pub fn shape(random: &Random, screen: Screen, tile: u32) -> Vec<Vertex> {
         1 => (0..vertices).map(|_| random.pick(&[beside(), beside(), anywhere()])).collect(),
         2 | 3 => (0..vertices).map(|_| beside()).collect(),
         4 | 5 if rectangle != square => (0..vertices).map(|_| cut_off(random, rectangle, square)).collect(),
+        6 | 7 if vertices == 3 => over_edge(random, rectangle),
+        8 if vertices == 3 => over_corners(random, rectangle),
         _ => against(random, rectangle, vertices),
     };
     // one unit off
@@ -245,6 +281,11 @@ pub fn listed_id(random: &Random) -> i32 {
     }
 }
 
+/// An entry with the flag or without; the ends of both ranges more often.
+fn entry(random: &Random) -> u32 {
+    random.pick(&[0, MOST_ID, WHOLE, MOST_ENTRY, random.below(MOST_ENTRY)])
+}
+
 /// A mark of a tile with so many entries, in a pool whose blocks hold so many: the entries, the most that there can be, or
 /// between.
 fn mark(random: &Random, entries: usize, most: usize) -> u32 {
@@ -262,7 +303,7 @@ pub fn filled(random: &Random, layout: Layout, screen: Screen, entries: &[usize]
     for (tile, &entries) in state.tiles.iter_mut().zip(entries) {
         *tile = Tile {
             blocks: state.free.drain(..chain(entries)).collect(),
-            ids: (0..entries).map(|_| random.pick(&[0, MOST_ID, random.below(MOST_ID)])).collect(),
+            entries: (0..entries).map(|_| entry(random)).collect(),
             mark: mark(random, entries, ids_of_block * blocks),
         };
     }

@@ -31,7 +31,7 @@ impl Watched {
         if matches!(call, Call::Open { .. }) && answer[0] == number::DONE {
             self.greatest = vec![0; tiles.len()];
         }
-        let lengths = || tiles.iter().map(|tile| tile.ids.len() as u32);
+        let lengths = || tiles.iter().map(|tile| tile.entries.len() as u32);
         for (greatest, length) in self.greatest.iter_mut().zip(lengths()) {
             *greatest = length.max(*greatest);
         }

@@ -47,7 +47,7 @@ pub fn words_of(shape: &[Vertex]) -> Words {
 }
 
 /// A shape with an id.
-fn bin_words([kind, x1, y1, x2, y2, x3, y3]: Words, id: i32) -> BinWords {
+pub fn bin_words([kind, x1, y1, x2, y2, x3, y3]: Words, id: i32) -> BinWords {
     [kind, x1, y1, x2, y2, x3, y3, id]
 }
 

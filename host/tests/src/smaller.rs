@@ -86,21 +86,21 @@ pub fn states(state: &State) -> Vec<State> {
         all.push(emptier);
     }
     for &tile in used.iter().take(10) {
-        let Tile { blocks, ids, mark } = &state.tiles[tile];
+        let Tile { blocks, entries, mark } = &state.tiles[tile];
         let half = blocks.len() / 2;
         if half > 0 {
             let mut shorter = state.clone();
             let (blocks, rest) = blocks.split_at(half);
-            let ids = ids[..half * state.layout.ids_of_block()].to_vec();
-            shorter.tiles[tile] = Tile { blocks: blocks.to_vec(), ids, mark: *mark };
+            let entries = entries[..half * state.layout.ids_of_block()].to_vec();
+            shorter.tiles[tile] = Tile { blocks: blocks.to_vec(), entries, mark: *mark };
             shorter.free.extend(rest);
             all.push(shorter);
         }
         let mut plainer = state.clone();
-        plainer.tiles[tile].ids.fill(0);
+        plainer.tiles[tile].entries.fill(0);
         all.push(plainer);
         let mut unmarked = state.clone();
-        unmarked.tiles[tile].mark = ids.len() as u32;
+        unmarked.tiles[tile].mark = entries.len() as u32;
         all.push(unmarked);
     }
     all.retain(|other| other != state);

@@ -28,10 +28,11 @@ struct Drawn {
     draw: Draw,
 }
 
-/// What a draw call gave: its number, and that of each shape where it was done.
+/// What a draw call gave: its number, that of each shape where it was done, and how many entries with the flag.
 struct Seen {
     number: u32,
     answers: Vec<u8>,
+    whole: usize,
 }
 
 /// A sound pool for a draw call: one of every fill from empty to full, with fewer free blocks than the shapes need in all, or
@@ -130,7 +131,8 @@ impl Case for Drawn {
             return Err("the words differ from those after single bins".into());
         }
         self.by_wrapper(&slot, number)?;
-        Ok(Seen { number, answers })
+        let whole = slot.state.map_or(0, |state| state.whole_entries()) - self.state.whole_entries();
+        Ok(Seen { number, answers, whole })
     }
 }
 
@@ -153,6 +155,8 @@ struct Reached {
     empty: u64,
     /// those on screens of 4,096 tiles
     largest: u64,
+    /// those that append entries with the flag
+    covering: u64,
 }
 
 impl Reached {
@@ -170,6 +174,7 @@ impl Reached {
                 self.bytes[usize::from(*spare > 0)] += 1;
                 self.empty += u64::from(seen.answers.is_empty());
                 self.largest += u64::from(case.state.tiles.len() == 4096);
+                self.covering += u64::from(seen.whole > 0);
             }
             number::BYTES => self.too_few[usize::from(case.draw.bytes() == 0)] += 1,
             _ => (),
@@ -205,9 +210,10 @@ fn draw_calls_are_as_single_bins() {
         let unused = [(1, 3), (1, 4), (1, 5), (1, 6), (2, 5), (2, 6)];
         let unused = unused.map(|(kind, column)| Fault::Unused { kind, column });
         assert!(unused.into_iter().all(alone), "and each word that a kind does not use");
-        let Reached { bytes, too_few, empty, largest, .. } = reached;
+        let Reached { bytes, too_few, empty, largest, covering, .. } = reached;
         assert!(bytes.iter().chain(&too_few).all(|&calls| calls > 500), "with enough bytes, more, one less and none");
         assert!(empty > 100 && largest > 5, "lists without a shape and largest screens should be there");
+        assert!(covering > 1000, "tiles should often be wholly covered");
     }
 }
 

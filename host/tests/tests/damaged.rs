@@ -1,12 +1,12 @@
 //! Sound pools in each layout with one to three words changed: the audit against the sentences on soundness, and calls on
-//! them. The ends of a mark's range, the words that tell the layout, and pools with three words a tile.
+//! them. The ends of an entry's range and of a mark's, the words that tell the layout, and pools with three words a tile.
 
 use std::collections::BTreeMap;
 
 use model::layout::{Layout, LAYOUTS, WORDS_OF_TILE};
 use model::marked::SCREEN;
 use model::number;
-use model::pool::{State, MOST_BLOCKS, MOST_ID, POISON};
+use model::pool::{State, MOST_BLOCKS, MOST_ENTRY, MOST_ID, POISON, WHOLE};
 use model::screen::Screen;
 use tests::call::{Call, Slot};
 use tests::draw::Draw;
@@ -33,7 +33,7 @@ fn place(random: &Random, state: &State, words: &[u32]) -> usize {
     let block = random.below(state.blocks.max(1));
     let chain = &state.tiles[tile as usize];
     // the places around the end of the tile's list
-    let end = chain.ids.len().saturating_sub(random.below(2) as usize) % layout.ids_of_block();
+    let end = chain.entries.len().saturating_sub(random.below(2) as usize) % layout.ids_of_block();
     let at_end = chain.blocks.last().map_or(any, |&last| layout.block_at(state.screen, last) + end);
     let place = match random.below(8) {
         0 => random.below(layout.header() as u32) as usize,
@@ -55,8 +55,8 @@ fn value(random: &Random, state: &State, words: &[u32], place: usize) -> u32 {
         1 => words[place].wrapping_sub(1),
         2 => other,
         3 | 4 => link,
-        5 => random.pick(&[0, 1, 8, 10, 31, 32, 63, 64, POISON, MOST_ID, MOST_ID + 1, u32::MAX]),
-        6 => random.below(MOST_ID),
+        5 => random.pick(&[0, 1, 8, 10, 31, 32, 63, 64, POISON, MOST_ID, WHOLE, MOST_ENTRY, MOST_ENTRY + 1, u32::MAX]),
+        6 => random.below(MOST_ENTRY),
         7 => random.pick(&[most_entries, most_entries + 1]),
         _ => random.word() as u32,
     }
@@ -236,6 +236,33 @@ fn changed(words: &[u32], changes: &[(usize, u32)]) -> [Vec<u32>; 3] {
     before_zeros.resize(2 * words.len(), 0);
     before_poison.resize(2 * words.len(), POISON);
     [changed, before_zeros, before_poison]
+}
+
+/// An entry at each end of a block, in a chain of three.
+#[test]
+fn an_entry_is_at_most_33554431() {
+    for layout in LAYOUTS {
+        let ids = layout.ids_of_block() as u32;
+        let words = with_entries(layout, SCREEN, 3, 2 * ids + 1).words();
+        for place in [0, 1, ids - 1, ids, 2 * ids - 1, 2 * ids] {
+            let at = layout.block_at(SCREEN, place / ids) + (place % ids) as usize;
+            assert_eq!(words[at], place);
+            let with_entry = |entry: u32| {
+                let [words, ..] = changed(&words, &[(at, entry)]);
+                (words, format!("the entry {entry} at place {place} in {layout:?}"))
+            };
+            for (id, whole) in [(0, 0), (MOST_ID, 0), (0, 1), (1, 1), (MOST_ID, 1)] {
+                let (words, what) = with_entry(id + whole * WHOLE);
+                let read = Slot::over(words.clone(), 0).call(&Call::Read { tile: 0, place });
+                assert_eq!(read, Ok([number::DONE, id, whole]), "{what}");
+                expect_sound(&words, layout, &what);
+            }
+            for entry in [MOST_ENTRY + 1, MOST_ENTRY + 2, 1 << 26, 1 << 31, POISON, u32::MAX] {
+                let (words, what) = with_entry(entry);
+                expect_unsound(&words, &what);
+            }
+        }
+    }
 }
 
 #[test]

@@ -1,8 +1,8 @@
-//! What document 01 and requests P1, P2, P4, P8 and P12 list, by the wrapper.
+//! What document 01 and requests P1, P2, P4, P6, P8 and P12 list, by the wrapper.
 
 use flourscoop::{
-    bin_list_of, box_touches, corner_touches, list_of, overlaps, refused, room, room_two, unit, Binned, Overlaps,
-    Pixel, Pool, Refusal, Shape, Vertex, BIN_WORDS,
+    bin_list_of, box_touches, corner_cover, list_of, overlaps, refused, room, room_two, unit, Binned, Cover, Entry,
+    Overlaps, Pixel, Pool, Refusal, Shape, Vertex, BIN_WORDS, WHOLE,
 };
 use model::layout::{Layout, LAYOUTS};
 use model::listed::{Drawn, Listed, DRAWN, LISTED};
@@ -26,9 +26,14 @@ fn check(screen: Screen, case: &Marked) {
     let tiles = case.tiles.len() as u32;
     assert_eq!(pool.bin(77, shape), Ok(Binned { tiles, blocks: tiles }), "{name}");
     for tile in 0..8 {
-        let listed = case.tiles.contains(&tile);
-        assert_eq!(pool.read(tile, 0), if listed { Ok(77) } else { Err(Refusal::NoPlace) }, "{name}");
-        assert_eq!(corner_touches(screen, tile, shape), Ok(listed), "{name}");
+        let (listed, whole) = (case.tiles.contains(&tile), case.whole.contains(&tile));
+        let (cover, entry) = match (listed, whole) {
+            (false, _) => (Cover::Apart, Err(Refusal::NoPlace)),
+            (true, false) => (Cover::Partly, Ok(Entry { id: 77, whole })),
+            (true, true) => (Cover::Wholly, Ok(Entry { id: 77, whole })),
+        };
+        assert_eq!(pool.read(tile, 0), entry, "{name}");
+        assert_eq!(corner_cover(screen, tile, shape), Ok(cover), "{name}");
         assert_eq!(box_touches(screen, tile, shape), Ok(case.boxed.contains(&tile)), "{name}");
     }
 }
@@ -85,9 +90,11 @@ fn opened(layout: Layout, blocks: u32) -> Vec<u32> {
     words
 }
 
-/// The list of each tile of the screen of the marked cases.
+/// The entry words of each tile of the screen of the marked cases, as they are read.
 fn lists(pool: &Pool) -> Vec<Vec<u32>> {
-    (0..SCREEN.tiles()).map(|tile| (0..).map_while(|place| pool.read(tile, place).ok()).collect()).collect()
+    let word = |Entry { id, whole }: Entry| if whole { id + WHOLE } else { id };
+    let list = |tile| (0..).map_while(|place| pool.read(tile, place).ok()).map(word).collect();
+    (0..SCREEN.tiles()).map(list).collect()
 }
 
 #[test]
@@ -106,12 +113,14 @@ fn lists_with_ids() {
     }
 }
 
-/// The marked cases as one list are in the tiles that the table has for each, in rising id.
+/// The marked cases as one list are in the tiles that the table has for each, in rising id, and cover those that it has.
 #[test]
 fn the_cases_as_a_list_with_ids() {
     let list = bin_list_of((0..).zip(MARKED.iter().map(|case| shape_of(case.shape))));
     let in_tile = |tile: u32| (0..).zip(&MARKED).filter(move |(_, case)| case.tiles.contains(&tile));
-    let listed: Vec<Vec<u32>> = (0..8).map(|tile| in_tile(tile).map(|(id, _)| id).collect()).collect();
+    let entry = |tile: u32, id: u32, case: &Marked| if case.whole.contains(&tile) { id + WHOLE } else { id };
+    let entries = |tile: u32| in_tile(tile).map(|(id, case)| entry(tile, id, case)).collect();
+    let listed: Vec<Vec<u32>> = (0..8).map(entries).collect();
     for layout in LAYOUTS {
         let mut words = opened(layout, 8);
         let mut pool = Pool::over(&mut words);
@@ -144,6 +153,9 @@ fn the_box_of_a_negative_point_gains_no_tile() {
     assert_eq!(box_touches(screen_of(SCREEN), 0, point(-1, 10)), Ok(false));
 }
 
+/// The entry of id 7 in a tile that its shape does not cover wholly.
+const SEVEN: Entry = Entry { id: 7, whole: false };
+
 #[test]
 fn pool_cases() {
     let screen = screen_of(SCREEN);
@@ -166,7 +178,7 @@ fn pool_cases() {
         let binned = pool.words().to_vec();
         assert_eq!(pool.bin(9, point(256, 256)), Err(Refusal::NoRoom));
         assert_eq!(pool.words(), binned);
-        assert_eq!(pool.read(0, 0), Ok(7));
+        assert_eq!(pool.read(0, 0), Ok(SEVEN));
         assert_eq!(pool.read(0, 1), Err(Refusal::NoPlace));
         assert_eq!(pool.read(8, 0), Err(Refusal::NoTile));
         assert_eq!([0, 1, 7, 8].map(|tile| pool.high_water(tile)), [Ok(1), Ok(0), Ok(0), Err(Refusal::NoTile)]);
@@ -195,7 +207,7 @@ fn an_edition_two_pool_is_refused_while_word_6_is_8() {
         };
         let refused = |refusal| (false, Err(refusal), Err(refusal), Err(refusal), Err(refusal));
         assert_eq!(read_with(8), refused(Refusal::Unsound));
-        assert_eq!(read_with(10), (true, Ok(7), Ok(1), Ok(Binned { tiles: 1, blocks: 0 }), Ok(0)));
+        assert_eq!(read_with(10), (true, Ok(SEVEN), Ok(1), Ok(Binned { tiles: 1, blocks: 0 }), Ok(0)));
     }
 }
 

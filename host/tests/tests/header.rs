@@ -1,10 +1,11 @@
 //! The C header says what the wrapper and the model say: numbers, texts, limits, version, declarations and examples.
 
 use flourscoop::{Refusal, Shape, Vertex};
+use model::cover::Cover;
 use model::layout::{Layout, LAYOUTS};
 use model::marked::SCREEN;
 use model::overlaps::{overlaps, Totals};
-use model::pool::{State, POISON};
+use model::pool::{State, MOST_ENTRY, MOST_ID, POISON, WHOLE};
 use model::shapes::{MOST_SHAPES, WORDS_OF_BIN, WORDS_OF_SHAPE};
 
 const HEADER: &str = include_str!("../../include/flourscoop.h");
@@ -57,6 +58,28 @@ fn the_limits_of_a_list_are_the_wrapper_s_and_the_model_s() {
         ("TRIANGLE", Shape::Triangle(origin, origin, origin)),
     ] {
         assert_eq!(defined(&format!("FLOURSCOOP_{name}")), shape.words()[0].to_string());
+    }
+}
+
+#[test]
+fn the_flag_is_the_wrapper_s_and_the_model_s() {
+    assert_eq!((flourscoop::WHOLE, MOST_ID + 1, MOST_ENTRY), (WHOLE, WHOLE, WHOLE + MOST_ID));
+    assert_eq!(defined("FLOURSCOOP_WHOLE"), format!("{WHOLE}u"));
+    for said in [" 0 to\n *   16,777,215, plus a flag, FLOURSCOOP_WHOLE, 16,777,216,", " at most\n *   33,554,431."] {
+        assert!(HEADER.contains(said), "{said}");
+    }
+    assert!(HEADER.contains(&format!("the entry of id 7 is {}.", 7 + WHOLE)));
+}
+
+#[test]
+fn the_covers_are_the_wrapper_s_and_the_model_s() {
+    for (name, wrapper, model) in [
+        ("APART", flourscoop::Cover::Apart, Cover::Apart),
+        ("PARTLY", flourscoop::Cover::Partly, Cover::Partly),
+        ("WHOLLY", flourscoop::Cover::Wholly, Cover::Wholly),
+    ] {
+        assert_eq!(defined(&format!("FLOURSCOOP_{name}")), format!("{}u", model as u32));
+        assert_eq!(wrapper as u32, model as u32);
     }
 }
 
@@ -189,9 +212,11 @@ fn the_answers_of_the_example_are_the_model_s() {
     for layout in LAYOUTS {
         let mut pool = State::opened(layout, SCREEN, 4);
         assert_eq!(pool.bin_list(&list, answers.len()), Ok(answers.clone()), "{layout:?}");
-        let lists: Vec<&[u32]> = pool.tiles.iter().map(|tile| &tile.ids[..]).collect();
-        assert_eq!(lists, [&[7, 9, 12][..], &[9, 12], &[], &[], &[9], &[9], &[], &[]], "{layout:?}");
+        let lists: Vec<&[u32]> = pool.tiles.iter().map(|tile| &tile.entries[..]).collect();
+        let [tile_0, tile_1, others] = [&[7, 9, 12, WHOLE + 13][..], &[9, 12, 13], &[9, 13]];
+        assert_eq!(lists, [tile_0, tile_1, &[], &[], others, others, &[], &[]], "{layout:?}");
     }
-    assert_eq!(answers, [0, 8, 0, 8, 5, 7, 0]);
-    assert!(HEADER.contains("Tile 0 has the list 7, 9, 12, tile 1 has 9, 12, and tiles 4 and 5 have 9."));
+    assert_eq!(answers, [0, 8, 0, 8, 5, 7, 0, 0]);
+    let said = "tile 0 has the list 7, 9, 12, 13*,\n *   tile 1 has 9, 12, 13, and tiles 4 and 5 have 9, 13.\n";
+    assert!(HEADER.contains(said));
 }

@@ -2,12 +2,13 @@
 //! blocks of 32 or 64 words, chains and marks up to the longest, and slices as long as the room and a word less.
 
 use flourscoop::Refusal;
+use model::cover::Cover;
 use model::layout::{Layout, LAYOUTS};
 use model::number;
 use model::pool::{State, Tile, MOST_BLOCKS};
 use model::screen::Screen;
 use model::Vertex;
-use tests::call::{self, ask, screen_of, Blocks, Call, Outcome, Slot};
+use tests::call::{self, ask, screen_of, Asked, Blocks, Call, Outcome, Slot};
 use tests::generate::{bad_layouts, cut_screens, full_screens, screen_with};
 
 const ONE_TILE: Screen = Screen { width: 8, height: 8, s: 3 };
@@ -52,7 +53,7 @@ fn bin_at(screen: Screen, tile: u32, id: u32) -> Call {
     Call::Bin { id, shape: vec![middle.map(|along| along as i32)] }
 }
 
-/// A triangle that touches every tile of the first so many rows, and no other.
+/// A triangle that touches every tile of the first so many rows, and no other; it covers all but those of the last wholly.
 fn first_rows(screen: Screen, rows: u32) -> Vec<Vertex> {
     let low = (16 << screen.s) * rows as i32 - 1;
     vec![[-262_144, low], [262_143, low], [0, -262_144]]
@@ -109,12 +110,18 @@ fn a_question_is_about_one_of_4096_tiles() {
     for (sizes, screen) in each_full_screen() {
         let last = screen.rectangle(4095);
         let corner = [last.left, last.top].map(|along| along as i32);
-        for shape in [vec![corner], vec![[0, 0], corner], vec![[0, 0], [corner[0], 0], corner]] {
-            let touched = |screen, tile| ask(screen, tile, &shape).map(|asked| asked.touched);
-            assert_eq!(touched(screen, 4095), Ok(Ok(true)), "{shape:?} on {screen:?}");
-            assert_eq!(touched(screen, 4096), Ok(Err(number::NO_TILE)), "{shape:?} on {screen:?}");
+        let over_all = first_rows(screen, screen.rows() + 1);
+        for (shape, cover) in [
+            (vec![corner], Cover::Partly),
+            (vec![[0, 0], corner], Cover::Partly),
+            (vec![[0, 0], [corner[0], 0], corner], Cover::Partly),
+            (over_all, Cover::Wholly),
+        ] {
+            let said = |screen, tile| ask(screen, tile, &shape).map(|asked| asked.cover);
+            assert_eq!(said(screen, 4095), Ok(Ok(cover)), "{shape:?} on {screen:?}");
+            assert_eq!(said(screen, 4096), Ok(Err(number::NO_TILE)), "{shape:?} on {screen:?}");
             for larger in one_more(sizes) {
-                assert_eq!(touched(larger, 0), Ok(Err(number::SCREEN)), "{shape:?} on {larger:?}");
+                assert_eq!(said(larger, 0), Ok(Err(number::SCREEN)), "{shape:?} on {larger:?}");
             }
         }
     }
@@ -131,8 +138,9 @@ fn expect_point(slot: &mut Slot, screen: Screen, point: Vertex, tiles: &[u32], t
     let listed = if touched { tiles.len() as u32 } else { 0 };
     expect(slot, Call::Bin { id: 5, shape: vec![point] }, [0, listed, listed]);
     for &tile in tiles {
-        let asked = ask(screen, tile, &[point]).unwrap();
-        assert_eq!((asked.boxed, asked.touched), (Ok(touched), Ok(touched)), "{point:?} at tile {tile} of {screen:?}");
+        let cover = if touched { Cover::Partly } else { Cover::Apart };
+        let asked = Asked { boxed: Ok(touched), cover: Ok(cover) };
+        assert_eq!(ask(screen, tile, &[point]), Ok(asked), "{point:?} at tile {tile} of {screen:?}");
         expect(slot, Call::Read { tile, place: 0 }, if touched { [0, 5, 0] } else { alone(number::NO_PLACE) });
         expect(slot, Call::Release { tile }, [0, u32::from(touched), 0]);
     }
@@ -236,9 +244,10 @@ fn a_shape_takes_2048_blocks_and_no_more() {
         expect(&mut slot, half(1), [0, 2048, 2048]);
         expect(&mut slot, half(2), [0, 2048, 0]);
         expect(&mut slot, bin_at(screen, 4095, 3), alone(number::NO_ROOM));
-        for tile in [0, columns - 1, columns, 2047] {
-            expect(&mut slot, Call::Read { tile, place: 0 }, [0, 1, 0]);
-            expect(&mut slot, Call::Read { tile, place: 1 }, [0, 2, 0]);
+        for tile in [0, columns - 1, columns, 2047 - columns, 2048 - columns, 2047] {
+            let whole = u32::from(tile < 2048 - columns);
+            expect(&mut slot, Call::Read { tile, place: 0 }, [0, 1, whole]);
+            expect(&mut slot, Call::Read { tile, place: 1 }, [0, 2, whole]);
             expect(&mut slot, Call::Read { tile, place: 2 }, alone(number::NO_PLACE));
         }
         for tile in [2048, 4095] {
@@ -326,7 +335,7 @@ fn the_longest_chain_has_2048_blocks() {
         let full = MOST_BLOCKS * ids;
         let mut state = State::opened(layout, ONE_TILE, MOST_BLOCKS);
         state.tiles[0] =
-            Tile { blocks: state.free.drain(..).rev().collect(), ids: (0..full - 1).collect(), mark: full - 1 };
+            Tile { blocks: state.free.drain(..).rev().collect(), entries: (0..full - 1).collect(), mark: full - 1 };
         let mut slot = Slot::over(state.words(), MOST_BLOCKS);
         expect(&mut slot, Call::Audit, alone(number::DONE));
         expect(&mut slot, Call::Read { tile: 0, place: full - 1 }, alone(number::NO_PLACE));

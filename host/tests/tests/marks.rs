@@ -136,7 +136,7 @@ impl Case for List {
 #[test]
 fn as_many_blocks_as_the_marks_ask_for_are_enough() {
     let mut seen: BTreeMap<Layout, [u32; 4]> = BTreeMap::new();
-    hold(0xF100_0006, 1000, |list: &List, needs| {
+    hold(0xF100_0006, 1200, |list: &List, needs| {
         let [tight, loose, most, with_lists] = seen.entry(list.layout).or_default();
         *tight += u32::from(needs.by_marks == needs.at_once && needs.at_once > 0);
         *loose += u32::from(needs.by_marks > needs.at_once);

@@ -4,7 +4,7 @@
 use std::collections::BTreeMap;
 
 use flourscoop::raw::{self, Answer};
-use flourscoop::{box_touches, corner_touches, Overlaps, Pool, Refusal};
+use flourscoop::{box_touches, corner_cover, Cover, Overlaps, Pool, Refusal};
 use model::number;
 use model::overlaps::Totals;
 use model::screen::Screen;
@@ -169,12 +169,14 @@ fn joined(one: Overlaps, shapes: u32, two: Overlaps) -> Overlaps {
 /// all three are refused, since a coordinate is out of range.
 fn by_other_calls(screen: Screen, shape: &[Vertex]) -> Result<Option<[u32; 2]>, String> {
     let (tiles, screen, shape) = (screen.tiles(), screen_of(screen), shape_of(shape));
-    let sum = |asked: fn(flourscoop::Screen, u32, flourscoop::Shape<flourscoop::Vertex>) -> Result<bool, Refusal>| {
-        (0..tiles).map(|tile| asked(screen, tile, shape).map(u32::from)).sum::<Result<u32, Refusal>>()
+    let sum = |asked: &dyn Fn(u32) -> Result<bool, Refusal>| {
+        (0..tiles).map(|tile| asked(tile).map(u32::from)).sum::<Result<u32, Refusal>>()
     };
+    let boxed = sum(&|tile| box_touches(screen, tile, shape));
+    let touched = sum(&|tile| corner_cover(screen, tile, shape).map(Cover::touches));
     let mut words = vec![0; flourscoop::room(screen, tiles).unwrap()];
     let binned = Pool::open(&mut words, screen, tiles).and_then(|mut pool| pool.bin(1, shape));
-    match (sum(box_touches), sum(corner_touches), binned.map(|binned| binned.tiles)) {
+    match (boxed, touched, binned.map(|binned| binned.tiles)) {
         (Ok(boxed), Ok(touched), Ok(listed)) if touched == listed => Ok(Some([boxed, touched])),
         (Err(Refusal::OutOfRange), Err(Refusal::OutOfRange), Err(Refusal::OutOfRange)) => Ok(None),
         answers => Err(format!("{shape:?} by box, corner and bin: {answers:?}")),

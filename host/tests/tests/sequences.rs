@@ -77,6 +77,8 @@ struct Seen {
     chain: usize,
     /// after how many calls a list of the first pool was shorter than it had been
     shorter: u64,
+    /// the entries of the first pool that have the flag in the end
+    whole: usize,
 }
 
 impl Case for Sequence {
@@ -118,7 +120,7 @@ impl Case for Sequence {
     /// those that the first has no room for; then reads the longest list of each.
     fn run(&self) -> Result<Seen, String> {
         let [mut first, mut second] = [0, 1].map(|pool| Watched::over(self.slot(pool)));
-        let mut seen = Seen { answers: Vec::new(), run_out: 0, chain: 0, shorter: 0 };
+        let mut seen = Seen { answers: Vec::new(), run_out: 0, chain: 0, shorter: 0, whole: 0 };
         for call in Repeated::each(&self.calls) {
             let answer = first.call(call).map_err(|wrong| format!("first pool: {wrong}"))?;
             let listed = first.slot.answers.given();
@@ -138,6 +140,7 @@ impl Case for Sequence {
             seen.chain = seen.chain.max(second.slot.state.as_ref().map_or(0, State::longest_chain));
         }
         seen.shorter = first.shorter;
+        seen.whole = first.slot.state.as_ref().map_or(0, State::whole_entries);
         for mut slot in [first.slot, second.slot] {
             if State::read(&slot.words).ok() != slot.state {
                 return Err("the words do not say what the model's state is".into());
@@ -178,6 +181,13 @@ impl Sequence {
         last_answers.filter(fewer).count()
     }
 
+    /// How many reads, going by these answers, find an entry with the flag.
+    fn whole_reads(&self, answers: &[Outcome]) -> usize {
+        let found =
+            |(call, answer): &(&Call, &Outcome)| matches!((call, answer), (Call::Read { .. }, [number::DONE, _, 1]));
+        Repeated::each(&self.calls).zip(answers).filter(found).count()
+    }
+
     /// A pool's slot before it is opened: words that say nothing.
     fn slot(&self, pool: usize) -> Slot {
         let room = |Repeated(_, call): &Repeated| match call {
@@ -197,7 +207,7 @@ impl Sequence {
         if one.layout != two.layout {
             return Err("the layouts differ".into());
         }
-        if one.tiles.iter().zip(&two.tiles).any(|(one, two)| one.ids != two.ids) {
+        if one.tiles.iter().zip(&two.tiles).any(|(one, two)| one.entries != two.entries) {
             return Err("the lists differ".into());
         }
         let mut marks = (0..one.screen.tiles()).map(|tile| one.layout.mark_at(tile));
@@ -228,6 +238,10 @@ struct Reached {
     largest: u32,
     /// after how many calls a mark is above the entries of its tile
     shorter: u64,
+    /// the entries of the first pools that have the flag in the end
+    whole: usize,
+    /// reads that find such an entry
+    whole_read: usize,
 }
 
 #[test]
@@ -241,6 +255,8 @@ fn two_pools_answer_and_hold_as_the_model() {
         reached.chain = reached.chain.max(seen.chain);
         reached.largest += u32::from(case.screen.tiles() == 4096 && case.blocks[1] == 2048);
         reached.shorter += seen.shorter;
+        reached.whole += seen.whole;
+        reached.whole_read += case.whole_reads(&seen.answers);
         screens.push(case.screen);
         if cut_both_ways(case.screen) {
             cut += 1;
@@ -252,12 +268,13 @@ fn two_pools_answer_and_hold_as_the_model() {
     println!("{cut} sequences are on screens cut on both axes; each of the cut screens comes {rarest} times or more");
     println!("{in_fewer_tiles} shapes on these were listed in fewer tiles than full squares would have it");
     assert_eq!(reached.len(), LAYOUTS.len());
-    for Reached { numbers, run_out, chain, largest, shorter } in reached.into_values() {
+    for Reached { numbers, run_out, chain, largest, shorter, whole, whole_read } in reached.into_values() {
         assert!(numbers.keys().copied().eq((0..=11).chain([15])), "each number should be returned");
         assert!(numbers.values().all(|&calls| calls > 500), "and often");
         assert!(run_out > 500, "lists should often run out of room in the middle");
         assert!(chain > 40 && largest > 1, "long chains and largest pools should be there");
         assert!(shorter > 60_000, "lists should often be shorter than they had been");
+        assert!(whole > 10_000 && whole_read > 500, "entries with the flag should be common, and be read");
     }
     assert!(cut > 10_000 && rarest > 3, "screens that are cut on both axes should be common");
     assert!(in_fewer_tiles > 5000, "it should often matter that tiles are cut");

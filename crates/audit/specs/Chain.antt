@@ -22,7 +22,7 @@ abbrev pub Filled : (holds : ℕ → ℕ → Type 0) (ids q : ℕ) (bs : List �
 Filled holds ids q [] = Unit {0}
 Filled holds ids q (b ∷ bs) = holds b (min ids q) × Filled holds ids (q - ids) bs
 
--- of the id places of a block, the first k hold ids, and the others poison
+-- of the places of a block, the first k hold entries, and the others poison
 unfoldable pub Places : Layout → (word : ℕ → ℕ) (k : ℕ) → Type 0
 Places L word k = (j : ℕ) → j < L .ids → (j < k → word j < L .limit) × (k ≤ j → word j ≡ L .poison)
 

@@ -91,8 +91,8 @@ fn block_at(layout: Edition, from: usize, block: Block) -> usize
     }
 }
 
-// Whether the id places of a block hold k ids, and then poison: the first k hold ids, and as many hold poison as are left, if any are. The count is over the
-// whole block, less its link: 32 words are a whole number of vectors, and 31 are not.
+// Whether the places of a block hold k entries, and then poison: the first k hold entries, and as many hold poison as are left, if any are. The count is over
+// the whole block, less its link: 32 words are a whole number of vectors, and 31 are not.
 fn block_right(pool: &[u32], layout: Edition, from: usize, block: Block, k: usize) -> bool
     requires { ⌜ (blockStart (layoutFor layout) from (block .0 + 1) ≤ length (now pool)) × (k ≤ layout .ids) × Sized (layoutFor layout) ⌝ }
     ensures { λ r. ⌜ Says r (Places (layoutFor layout) (blockWordFrom (layoutFor layout) (now (pool .entry)) from (block .0)) k) ⌝ }

@@ -22,11 +22,11 @@ pub fn narrow(x: usize) -> u32
 }
 
 // The word of a number and its flag.
-pub fn flagged(n: u32, whole: bool) -> u32
+pub fn flagged(n: u32, set: bool) -> u32
     requires { ⌜ n < flag ⌝ }
-    ensures { λ r. ⌜ r ≡ flagged n whole ⌝ }
+    ensures { λ r. ⌜ r ≡ flagged n set ⌝ }
 {
-    if whole { n + FLAG } else { n }
+    if set { n + FLAG } else { n }
 }
 
 // The number of a word.

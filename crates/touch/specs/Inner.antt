@@ -23,7 +23,7 @@ pub record Corners : Type 0 where
   pub r : ℤ
   pub s : ℤ
 
--- all four do
+-- all four of them lie so
 pub record AllOnSide (third : ℤ) (v : Corners) : Type 0 where
   pub p : OnSide third (v .p)
   pub q : OnSide third (v .q)

@@ -13,8 +13,8 @@ abbrev μ-loop : tie.MeasureT-loop
 loop-holds : tie.Need-loop-holds Inv-loop μ-loop
 loop-holds c = search needs
 
-box-touches-requires : tie.Need-box-touches-requires Inv-loop μ-loop
-box-touches-requires c κs = search needs
+box-cover-requires : tie.Need-box-cover-requires Inv-loop μ-loop
+box-cover-requires c κs = search needs
 
 write-tile-requires : tie.Need-write-tile-requires Inv-loop μ-loop
 write-tile-requires c κs = search needs
@@ -38,7 +38,7 @@ write-by-box-spec =
     Inv-loop
     μ-loop
     loop-holds
-    box-touches-requires
+    box-cover-requires
     write-tile-requires
     add-t
     loop-less

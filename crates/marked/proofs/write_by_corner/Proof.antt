@@ -13,8 +13,8 @@ abbrev μ-loop : tie.MeasureT-loop
 loop-holds : tie.Need-loop-holds Inv-loop μ-loop
 loop-holds c = search needs
 
-corner-touches-requires : tie.Need-corner-touches-requires Inv-loop μ-loop
-corner-touches-requires c κs = search needs
+corner-cover-requires : tie.Need-corner-cover-requires Inv-loop μ-loop
+corner-cover-requires c κs = search needs
 
 write-tile-requires : tie.Need-write-tile-requires Inv-loop μ-loop
 write-tile-requires c κs = search needs
@@ -38,7 +38,7 @@ write-by-corner-spec =
     Inv-loop
     μ-loop
     loop-holds
-    corner-touches-requires
+    corner-cover-requires
     write-tile-requires
     add-t
     loop-less

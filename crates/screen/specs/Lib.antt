@@ -1,2 +1,3 @@
 pub mod Screen
 pub mod Rectangle
+pub mod Held

@@ -7,6 +7,7 @@ ghost use Rattle.numbers.specs.Says.{Says};
 ghost use Rattle.screen.specs.Screen.{Allowed, across, columns, rows, tiles, columnOf, rowOf};
 ghost use Rattle.numbers.specs.Diff.{up};
 ghost use Rattle.screen.specs.Rectangle.{side, near, far, rectangleAt, Meeting};
+ghost use Rattle.screen.specs.Held.{held, roundedDown, roundedUpLessOne};
 
 // The number of a tile.
 pub struct Tile(pub u32);
@@ -153,7 +154,7 @@ fn sides(k: u32, s: u32) -> u32
 }
 
 // Where the glass ends along an axis of that extent.
-fn glass_end(extent: u32) -> u32
+pub fn glass_end(extent: u32) -> u32
     requires { ⌜ extent ≤ 4096 ⌝ }
     ensures { λ r. ⌜ r ≡ 16 * extent ⌝ }
 {
@@ -233,4 +234,30 @@ pub fn meeting(extent: u32, s: u32, low: i32, high: i32) -> Span
     let start = first_reaching(from, s);
     let end = beginning_before(positive(high + 1), s, tiles_across(extent, s));
     Span { start, end }
+}
+
+// k, or the last of n tiles where there is no tile k.
+fn held_to(n: u32, k: u32) -> u32
+    requires { ⌜ 0 < n ⌝ }
+    ensures { λ r. ⌜ r ≡ held n k ⌝ }
+{
+    if k < n { k } else { n - 1 }
+}
+
+// The tile along an axis of that extent at x sides, rounded down, held to the grid.
+pub fn rounded_down(extent: u32, s: u32, x: i32) -> u32
+    requires { ⌜ (1 ≤ extent) × (extent ≤ 4096) × (3 ≤ s) × (s ≤ 6) ⌝ }
+    ensures { λ r. ⌜ r ≡ roundedDown extent s x ⌝ }
+{
+    held_to(tiles_across(extent, s), sides_in(positive(x), s))
+}
+
+// The tile along an axis of that extent at x sides, rounded up, less one, held to the grid.
+pub fn rounded_up_less_one(extent: u32, s: u32, x: i32) -> u32
+    requires { ⌜ (1 ≤ extent) × (extent ≤ 4096) × (3 ≤ s) × (s ≤ 6) × (x ≤ℤ pos 262143) ⌝ }
+    ensures { λ r. ⌜ r ≡ roundedUpLessOne extent s x ⌝ }
+{
+    let up = sides_in(positive(x) + (side_of(s) - 1), s);
+    let before = if up == 0 { 0 } else { up - 1 };
+    held_to(tiles_across(extent, s), before)
 }

@@ -15,3 +15,4 @@ pub mod Points
 pub mod Sides
 pub mod Covering
 pub mod Extremes
+pub mod Enclosing

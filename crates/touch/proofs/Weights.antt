@@ -39,7 +39,7 @@ same-mean ws vs ws′ vs′ q s m =
 
 -- ---- the sums of one, two and three, as differences of naturals
 
-term : (u : ℕ) (z : ℤ) → Diff (pos u *ℤ z) (u * up z) (u * up (negℤ z))
+pub term : (u : ℕ) (z : ℤ) → Diff (pos u *ℤ z) (u * up z) (u * up (negℤ z))
 term u z = diff-same (diff-mul (diff-pos u) (diff-any z)) (omega arith)
 
 one : (u : ℕ) (x : ℤ) → Diff (pos u *ℤ x +ℤ pos 0) (u * up x) (u * up (negℤ x))

@@ -68,7 +68,7 @@ module _ (d : Screen) (a : Allowed d) where
   row-room {row} h = let t = a .tiles≤ in let w : columns d * (row + 1) ≤ columns d * rows d = mul-le-mul-left (columns d) (omega arith) in omega arith
 
   -- the tile in a column and a row has their rectangle
-  tile-rectangle : (column row : ℕ) → column < columns d → rectangle d (row * columns d + column) ≡ rectangleAt d column row
+  pub tile-rectangle : (column row : ℕ) → column < columns d → rectangle d (row * columns d + column) ≡ rectangleAt d column row
   tile-rectangle column row h = λ i. rectangleAt d (column-is d a column row h i) (row-is d a column row h i)
 
 module _ (d : Screen) (a : Allowed d) (e : Edges) (o : Outline e) (row : ℕ) (r< : row < rows d) (m : MeetsRow d e row) (span : Span) (c : MeetingColumns d e span) where

@@ -15,9 +15,14 @@ use Rattle.touch.specs.declared.Edges.{Edges}
 use Rattle.touch.specs.declared.RowEdges.{RowEdges}
 use Rattle.touch.specs.declared.Cover as answer
 use Rattle.touch.specs.Corner.{bounds, triangle}
-use Rattle.touch.specs.Edges.{starts, Clear}
+use Rattle.touch.specs.Edges.{starts, rowEdges, RowEdgesRange, Clear}
 use Rattle.touch.specs.Inner.{EnclosedAt, CoverAt}
 use Rattle.walk.specs.declared.Spans.{Spans}
+
+-- r are the edges in a row, small enough for the test
+pub record InTheRow (d : Screen) (e : Edges) (row : ℕ) (r : RowEdges) : Type 0 where
+  pub is : r ≡ rowEdges e (near (d .height) (d .s) row) (far (d .height) (d .s) row)
+  pub range : RowEdgesRange r
 
 -- no edge separates the tile of that column
 abbrev pub ClearIn : Screen → RowEdges → ℕ → Type 0

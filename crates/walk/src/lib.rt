@@ -10,7 +10,7 @@ ghost use Rattle.shape.specs.Shape.{InRange};
 ghost use Rattle.touch.specs.Edges.{AllPlaced, Outline, RowEdgesRange};
 ghost use Rattle.walk.specs.Touched.{Walked};
 ghost use Rattle.walk.specs.Lists.{IsTouched, Flagged, Lists, Words, Before};
-ghost use Rattle.walk.specs.Row.{ClearIn, EnclosedIn, CoverIn, Tested, First, RunIn, outlined, MeetingBox, MeetingColumns, MeetingRows, MeetsRow};
+ghost use Rattle.walk.specs.Row.{ClearIn, EnclosedIn, CoverIn, Tested, First, RunIn, InTheRow, outlined, MeetingBox, MeetingColumns, MeetingRows, MeetsRow};
 use numbers::flagged;
 use numbers::wide;
 use screen::Screen;
@@ -28,13 +28,23 @@ pub struct Spans {
 }
 
 // Where the run of a row starts: its first column, and whether the tile there is wholly covered.
-struct Start {
-    column: u32,
-    whole: bool,
+pub struct Start {
+    pub column: u32,
+    pub whole: bool,
+}
+
+// The edges in a row.
+pub fn edges_in_row(screen: Screen, edges: Edges, row: u32) -> RowEdges
+    requires { ⌜ (Allowed screen) × (Outline edges) × (row < rows screen) ⌝ }
+    ensures { λ r. ⌜ InTheRow screen edges row r ⌝ }
+{
+    let top = screen::near_side(screen.height, screen.s, row);
+    let bottom = screen::far_side(screen.height, screen.s, row);
+    touch::row_edges(edges, top, bottom)
 }
 
 // How the shape covers the tile of a column.
-fn cover_in(screen: Screen, edges: RowEdges, column: u32) -> Cover
+pub fn cover_in(screen: Screen, edges: RowEdges, column: u32) -> Cover
     requires { ⌜ (Allowed screen) × (RowEdgesRange edges) × (column < columns screen) ⌝ }
     ensures { λ r. ⌜ CoverIn r screen edges column ⌝ }
 {
@@ -44,7 +54,7 @@ fn cover_in(screen: Screen, edges: RowEdges, column: u32) -> Cover
 }
 
 // The first column of a span whose tile is touched, or one past the span where there is none.
-fn first_touched(screen: Screen, edges: RowEdges, span: Span) -> Start
+pub fn first_touched(screen: Screen, edges: RowEdges, span: Span) -> Start
     requires { ⌜ (Allowed screen) × (RowEdgesRange edges) × (span .end ≤ columns screen) ⌝ }
     ensures column { λ r. ⌜ First (ClearIn screen edges) span (r .column) ⌝ }
     ensures whole { λ r. ⌜ (r .column < span .end → Says (r .whole) (EnclosedIn screen edges (r .column))) ⌝ }
@@ -105,9 +115,7 @@ fn walk_row(screen: Screen, edges: Edges, row: u32, span: Span, list: &mut [u32]
     requires { ⌜ (count ≤ row * columns screen) × (4096 ≤ length (now list)) ⌝ }
     ensures { λ r. ⌜ ((old : List ℕ) → Before screen (outlined edges) row count old (now (list .entry)) → Before screen (outlined edges) (row + 1) r old (now (list .exit))) ⌝ }
 {
-    let top = screen::near_side(screen.height, screen.s, row);
-    let bottom = screen::far_side(screen.height, screen.s, row);
-    let in_row = touch::row_edges(edges, top, bottom);
+    let in_row = edges_in_row(screen, edges, row);
     let end = span.end;
     let first = first_touched(screen, in_row, span);
     let column = first.column;

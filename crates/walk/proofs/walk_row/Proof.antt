@@ -4,68 +4,29 @@ use Prim.Native.Nat.{ℕ, _*_, _+_}
 use mathlib.Core.Path.{_≡_, sym, ap, subst, _∙_}
 use native.Mathlib.Omega.{arith}
 use lib.ListN.{set, length-set}
-use mir.Syntax.{w64}
 use Rattle.numbers.specs.Flag.{flagged, plains}
 use Rattle.numbers.specs.Says.{Says}
-use Rattle.numbers.proofs.Is.{is-call}
-use Rattle.screen.specs.Rectangle.{near, far}
 use Rattle.screen.proofs.Laws.{columns≥}
 use Rattle.touch.specs.declared.RowEdges.{RowEdges}
-use Rattle.touch.specs.Edges.{rowEdges, Within, RowEdgesRange}
-use Rattle.touch.proofs.Sizes.{row-edges-range, outline-range}
 use Rattle.walk.specs.Lists.{Words}
 use Rattle.walk.specs.Row.{ClearIn, EnclosedIn, Tested, First, RunIn}
-use Rattle.walk.proofs.Grid.{near-within, far-within, row-room, row-without, row-named}
+use Rattle.walk.proofs.Grid.{row-room, row-without, row-named}
 use borrow.Author.Needs.{needs}
 use Rattle.walk.proofs.walk_row.Statement.{statement}
 use Rattle.walk.proofs.walk_row.Tie as tie
 
-near-side-requires : tie.Need-near-side-requires
-near-side-requires c κs = search needs
-
-far-side-requires : tie.Need-far-side-requires
-far-side-requires c κs = search needs
-
-row-edges-requires : tie.Need-row-edges-requires
-row-edges-requires c κs =
-    let s = c .before .before .before in
-    let d = s .args .screen in
-    let ok = s .pre .0 .0 in
-    let top = is-call w64 (c .before .near-side .ok) (c .before .near-side .ensures) .same in
-    let bottom = is-call w64 (c .far-side .ok) (c .far-side .ensures) .same in (
-      outline-range (s .pre .0 .1),
-      subst (Within 524288) (sym top) (near-within (d .height) (d .s) (ok .height≤) (ok .s≥) (ok .s≤) (s .pre .1 .0 .0)),
-      subst (Within 524288) (sym bottom) (far-within (d .height) (d .s) (ok .height≤) (ok .s≥) (ok .s≤) (s .pre .1 .0 .0)),
-    )
-
--- the edges in the row, and how large their numbers are
-in-row : (c : tie.After-row-edges)
-    → c .row-edges .result
-    ≡ rowEdges (c .before .before .before .before .args .edges) (near (c .before .before .before .before .args .screen .height) (c .before .before .before .before .args .screen .s) (c .before .before .before .before .args .row))
-    (far (c .before .before .before .before .args .screen .height) (c .before .before .before .before .args .screen .s) (c .before .before .before .before .args .row))
-in-row c =
-    let top = is-call w64 (c .before .before .near-side .ok) (c .before .before .near-side .ensures) .same in
-    let bottom = is-call w64 (c .before .far-side .ok) (c .before .far-side .ensures) .same in
-    c .row-edges .ensures ∙ (λ i. rowEdges (c .before .before .before .before .args .edges) (top i) (bottom i))
-
-in-range : (c : tie.After-row-edges) → RowEdgesRange (c .row-edges .result)
-in-range c =
-    let s = c .before .before .before .before in
-    let d = s .args .screen in
-    let ok = s .pre .0 .0 in
-    subst RowEdgesRange (sym (in-row c))
-    (row-edges-range (outline-range (s .pre .0 .1)) (near-within (d .height) (d .s) (ok .height≤) (ok .s≥) (ok .s≤) (s .pre .1 .0 .0))
-    (far-within (d .height) (d .s) (ok .height≤) (ok .s≥) (ok .s≤) (s .pre .1 .0 .0)))
+edges-in-row-requires : tie.Need-edges-in-row-requires
+edges-in-row-requires c κs = search needs
 
 first-touched-requires : tie.Need-first-touched-requires
-first-touched-requires c κs = let s = c .before .before .before .before in (s .pre .0 .0, in-range c, s .pre .0 .2 .within)
+first-touched-requires c κs = let s = c .before .before in (s .pre .0 .0, c .edges-in-row .ensures .range, s .pre .0 .2 .within)
 
 returns : tie.Need-returns
 returns c =
-    let s = c .before .before .before .before .before .before in
+    let s = c .before .before .before .before in
     let d = s .args .screen in
     let found = c .before .first-touched in
-    let first = subst (λ (e : RowEdges). First (ClearIn d e) (s .args .span) (found .result .column)) (in-row (c .before .before)) (found .ensures .0) in
+    let first = subst (λ (e : RowEdges). First (ClearIn d e) (s .args .span) (found .result .column)) (c .before .before .edges-in-row .ensures .is) (found .ensures .0) in
     λ old g. (
       row-without d (s .pre .0 .0) (s .args .edges) (s .pre .0 .1) (s .args .row) (s .pre .1 .0 .0) (s .pre .1 .0 .1) (s .args .span) (s .pre .0 .2) first (search needs) (g .0),
       g .1,
@@ -76,7 +37,7 @@ columns-of-requires c κs = search needs
 
 mul-base : tie.Need-mul-base
 mul-base c =
-    let s = c .before .before .before .before .before .before .before in
+    let s = c .before .before .before .before .before in
     let e = ap (λ (x : ℕ). s .args .row * x) (c .columns-of .ensures) in
     omega (arith, row-room (s .args .screen) (s .pre .0 .0) (s .pre .1 .0 .0))
 
@@ -85,13 +46,13 @@ wide-requires c κs = search needs
 
 add-flagged : tie.Need-add-flagged
 add-flagged c =
-    let s = c .before .before .before .before .before .before .before .before in
+    let s = c .before .before .before .before .before .before in
     let e = ap (λ (x : ℕ). s .args .row * x) (c .before .columns-of .ensures) in
     omega (arith, row-room (s .args .screen) (s .pre .0 .0) (s .pre .1 .0 .0), s .pre .0 .2 .within)
 
 flagged-requires : tie.Need-flagged-requires
 flagged-requires c κs =
-    let s = c .before .before .before .before .before .before .before .before in
+    let s = c .before .before .before .before .before .before in
     let e = ap (λ (x : ℕ). s .args .row * x) (c .before .columns-of .ensures) in
     omega (arith, row-room (s .args .screen) (s .pre .0 .0) (s .pre .1 .0 .0), s .pre .0 .2 .within)
 
@@ -100,24 +61,24 @@ mul-list c = search needs
 
 slice-write-list : tie.Need-slice-write-list
 slice-write-list c =
-    let s = c .before .before .before .before .before .before .before .before .before in
+    let s = c .before .before .before .before .before .before .before in
     omega (arith, row-room (s .args .screen) (s .pre .0 .0) (s .pre .1 .0 .0), columns≥ (s .args .screen) (s .pre .0 .0))
 
-add-t17 : tie.Need-add-t17
-add-t17 c = search needs
+add-t15 : tie.Need-add-t15
+add-t15 c = search needs
 
 add-append-run : tie.Need-add-append-run
-add-append-run c = let s = c .before .before .before .before .before .before .before .before .before .before in omega (arith, row-room (s .args .screen) (s .pre .0 .0) (s .pre .1 .0 .0))
+add-append-run c = let s = c .before .before .before .before .before .before .before .before in omega (arith, row-room (s .args .screen) (s .pre .0 .0) (s .pre .1 .0 .0))
 
 append-run-requires : tie.Need-append-run-requires
 append-run-requires c κs =
-    let s = c .before .before .before .before .before .before .before .before .before .before in
+    let s = c .before .before .before .before .before .before .before .before in
     let e = ap (λ (x : ℕ). s .args .row * x) (c .before .before .before .columns-of .ensures) in
     let within = s .pre .0 .2 .within in
     let few = row-room (s .args .screen) (s .pre .0 .0) (s .pre .1 .0 .0) in (
       (
         s .pre .0 .0,
-        in-range (c .before .before .before .before .before .before),
+        c .before .before .before .before .before .before .edges-in-row .ensures .range,
         within,
         omega arith,
       ),
@@ -133,13 +94,13 @@ same-length c = c .before .before .append-run .ensures .1 .size ∙ simp length-
 
 returns-2 : tie.Need-returns-2
 returns-2 c =
-    let s = c .before .before .before .before .before .before .before .before .before .before .before .before .before in
+    let s = c .before .before .before .before .before .before .before .before .before .before .before in
     let d = s .args .screen in
     let ok = s .pre .0 .0 in
     let row = s .args .row in
     let found = c .before .before .before .before .before .before .before .before .first-touched in
     let column = found .result .column in
-    let edges = in-row (c .before .before .before .before .before .before .before .before .before) in
+    let edges = c .before .before .before .before .before .before .before .before .before .edges-in-row .ensures .is in
     let columns = c .before .before .before .before .before .before .columns-of .ensures in
     let at = c .before .before .before .before .before .wide .ensures in
     let word = c .before .before .before .before .flagged .ensures ∙ (λ i. flagged (row * columns i + column) (found .result .whole)) in
@@ -162,9 +123,7 @@ pub walk-row-spec : {M : Type 1} → statement M
 walk-row-spec =
     tie.close
     (tie.spec
-    near-side-requires
-    far-side-requires
-    row-edges-requires
+    edges-in-row-requires
     first-touched-requires
     returns
     columns-of-requires
@@ -174,7 +133,7 @@ walk-row-spec =
     flagged-requires
     mul-list
     slice-write-list
-    add-t17
+    add-t15
     add-append-run
     append-run-requires
     same-length

@@ -1,0 +1,73 @@
+-- A walk of the triangle of a shape's three vertices is a walk of the shape: they touch the same rectangles, and start and end in the same tiles.
+use Prim.Native.Nat.{ℕ}
+use mathlib.Core.List.{List}
+use Rattle.numbers.proofs.Says.{says-iff}
+use Rattle.screen.specs.declared.Screen.{Screen}
+use Rattle.screen.specs.declared.Span.{Span}
+use Rattle.shape.specs.declared.Shape.{Shape}
+use Rattle.touch.specs.Corner.{three, triangle}
+use Rattle.touch.proofs.Covering.{wholly-as-triangle}
+use Rattle.touch.proofs.Weights.{touches-as-triangle}
+use Rattle.stepping.specs.declared.Stepped.{Stepped}
+use Rattle.stepping.specs.Stepped.{SteppedThrough}
+use Rattle.stepping.specs.Stepping.{Right, Left, Find, InRow, Steps, Walk}
+
+module _ (d : Screen) (shape : Shape) where
+  abbrev S : Shape
+  S = triangle (three shape)
+
+  module _ {row : ℕ} where
+    right-as : {column end : ℕ} {ts : List ℕ} → Right d S row column end ts → Right d shape row column end ts
+    right-as (Right.edge e) = Right.edge e
+    right-as (Right.miss l f) = Right.miss l (λ h. f (touches-as-triangle shape .0 h))
+    right-as (Right.hit l h t) = Right.hit l (touches-as-triangle shape .1 h) (right-as t)
+
+    left-as : {column first : ℕ} {ts : List ℕ} → Left d S row column first ts → Left d shape row column first ts
+    left-as Left.edge = Left.edge
+    left-as (Left.miss f) = Left.miss (λ h. f (touches-as-triangle shape .0 h))
+    left-as (Left.hit h t) = Left.hit (touches-as-triangle shape .1 h) (left-as t)
+
+    find-as : {end column found : ℕ} {ts : List ℕ} → Find d S row end column found ts → Find d shape row end column found ts
+    find-as (Find.hit l h) = Find.hit l (touches-as-triangle shape .1 h)
+    find-as (Find.miss l f t) = Find.miss l (λ h. f (touches-as-triangle shape .0 h)) (find-as t)
+
+    row-as : {start : ℕ} {run : Span} {ts : List ℕ} → InRow d S row start run ts → InRow d shape row start run ts
+    row-as (InRow.both r l) = InRow.both (right-as r) (left-as l)
+
+  steps-as : {row : ℕ} {run : Span} {listed tested : List ℕ} → Steps d S row run listed tested → Steps d shape row run listed tested
+  steps-as (Steps.start r) = Steps.start (row-as r)
+  steps-as (Steps.next p f r) = Steps.next (steps-as p) (find-as f) (row-as r)
+
+  pub walk-as : {listed tested : List ℕ} → Walk d S listed tested → Walk d shape listed tested
+  walk-as w =
+      record {
+        row = w .row;
+        last = record { within = w .last .within; meets = w .last .meets; last = w .last .last };
+        run = w .run;
+        steps = steps-as (w .steps);
+      }
+
+  -- and so is all that is said of it
+  pub stepped-as : {answer : Stepped} {old new : List ℕ} → SteppedThrough d S answer old new → SteppedThrough d shape answer old new
+  stepped-as s =
+      let w = s .walked in
+      let t = w .touched in
+      record {
+        walked =
+            record {
+              touched =
+                  record {
+                    rising = t .rising;
+                    touched = λ i l. let p = t .touched i l in (p .0, touches-as-triangle shape .1 (p .1));
+                    all = λ k l h. t .all k l (touches-as-triangle shape .0 h);
+                  };
+              flags = λ i l. says-iff (wholly-as-triangle shape .1) (wholly-as-triangle shape .0) (w .flags i l);
+              few = w .few;
+              size = w .size;
+              rest = w .rest;
+            };
+        listed = s .listed;
+        tested = s .tested;
+        walk = walk-as (s .walk);
+        tests = s .tests;
+      }

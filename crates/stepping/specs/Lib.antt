@@ -1,0 +1,3 @@
+pub mod Stepping
+pub mod Row
+pub mod Stepped

@@ -1,0 +1,28 @@
+-- What the stepping walk answers, and what the walk answers of any shape.
+use Prim.Native.Nat.{ℕ}
+use mathlib.Core.Path.{_≡_}
+use mathlib.Core.List.{List}
+use lib.ListN.{length}
+use Rattle.screen.specs.declared.Screen.{Screen}
+use Rattle.shape.specs.declared.Shape.{Shape}
+use Rattle.walk.specs.Touched.{Walked}
+use Rattle.stepping.specs.declared.Stepped.{Stepped}
+use Rattle.stepping.specs.Stepping.{OnScreen, Walk}
+
+-- the touched tiles stand at the front of the slice, rising, with their flags, and every other place is as it was; the tests are as many as the walk's
+-- definition has
+pub record SteppedThrough (d : Screen) (shape : Shape) (answer : Stepped) (old new : List ℕ) : Type 0 where
+  pub walked : Walked d shape (answer .count) old new
+  pub listed : List ℕ
+  pub tested : List ℕ
+  pub walk : Walk d shape listed tested
+  pub tests : answer .tests ≡ length tested
+
+-- the tests that a shape takes: those of the stepping walk's definition where every vertex lies on the screen, and else none
+pub data TestsSay (d : Screen) (shape : Shape) (tests : ℕ) : Type 0 where
+  on-screen : OnScreen d shape → (listed tested : List ℕ) → Walk d shape listed tested → tests ≡ length tested → TestsSay d shape tests
+  off-screen : (OnScreen d shape → ⊥) → tests ≡ 0 → TestsSay d shape tests
+
+pub record WalkedThrough (d : Screen) (shape : Shape) (answer : Stepped) (old new : List ℕ) : Type 0 where
+  pub walked : Walked d shape (answer .count) old new
+  pub tests : TestsSay d shape (answer .tests)

@@ -63,7 +63,7 @@ SoundWith h p = Sound (layoutOf p) p × HeaderOf (layoutOf p) p h
 module _ {h : Header} {p : List ℕ} {shape : Shape} {id : ℕ} {a : Binned} {q : List ℕ} (k : SoundWith h p) where
   place-keeps : id < idLimit → PlaceSays p shape id a q → SoundWith h q
   place-keeps i (PlaceSays.no-room ts T l e f) = subst (SoundWith h) (sym f) k
-  place-keeps i (PlaceSays.done ts T l flag F e f) =
+  place-keeps i (PlaceSays.done ts T l flag F tests C e f) =
       let A = bin-appends (k .0) id i T l flag in
       subst (SoundWith h) (sym f) (rw (kept-layout (k .0) (A .kept)) (A .sound), kept-header (k .0) (A .kept) (k .1))
 

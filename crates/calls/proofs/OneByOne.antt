@@ -17,7 +17,7 @@ use Rattle.calls.proofs.Keeping.{SoundWith, bin-keeps}
 module _ {p : List ℕ} {shape : Shape} {id : ℕ} {a : Binned} {q : List ℕ} where
   place-number : PlaceSays p shape id a q → a .number ≤ 8
   place-number (PlaceSays.no-room ts T l e f) = omega (arith, ap (λ (b : Binned). b .number) e)
-  place-number (PlaceSays.done ts T l flag F e f) = omega (arith, ap (λ (b : Binned). b .number) e)
+  place-number (PlaceSays.done ts T l flag F tests C e f) = omega (arith, ap (λ (b : Binned). b .number) e)
 
   bin-number : BinSays p shape id a q → a .number ≤ 8
   bin-number (BinSays.damaged n e f) = omega (arith, ap (λ (b : Binned). b .number) e)

@@ -11,6 +11,7 @@ use Rattle.numbers.specs.Flag.{flagged, plain, isFlagged}
 use Rattle.shape.specs.declared.Shape.{Shape}
 use Rattle.shape.specs.Shape.{InRange}
 use Rattle.walk.specs.Touched.{TouchedTiles, FlagsOf}
+use Rattle.stepping.specs.Stepped.{TestsSay}
 use Rattle.snap.specs.declared.PixelShape.{PixelShape}
 use Rattle.snap.specs.declared.SnappedShape.{SnappedShape}
 use Rattle.snap.specs.Shapes.{shapeOf}
@@ -42,15 +43,16 @@ pub data AuditSays (p : List ℕ) (a : ℕ) : Type 0 where
   done : Sound (layoutOf p) p → a ≡ 0 → AuditSays p a
 
 abbrev pub refusedBin : (number : ℕ) → Binned
-refusedBin n = record { number = n; tiles = 0; blocks = 0 }
+refusedBin n = record { number = n; tiles = 0; blocks = 0; tests = 0 }
 
 -- the last rows of both bins, where the pool, the id and the vertices are in order: 8; an accepted bin appends the id to the lists of the touched tiles,
--- flagged in those that the shape covers wholly
+-- flagged in those that the shape covers wholly, and tells the tests that this took
 pub data PlaceSays (p : List ℕ) (shape : Shape) (id : ℕ) (a : Binned) (q : List ℕ) : Type 0 where
   no-room : (ts : List ℕ) → TouchedTiles (screenOf p) shape ts → freeIn p < need (layoutOf p) p ts → a ≡ refusedBin 8 → q ≡ p → PlaceSays p shape id a q
   done : (ts : List ℕ) → TouchedTiles (screenOf p) shape ts → need (layoutOf p) p ts ≤ freeIn p
       → (flag : ℕ → Bool) → FlagsOf (screenOf p) shape flag
-      → a ≡ record { number = 0; tiles = length ts; blocks = need (layoutOf p) p ts }
+      → (tests : ℕ) → TestsSay (screenOf p) shape tests
+      → a ≡ record { number = 0; tiles = length ts; blocks = need (layoutOf p) p ts; tests = tests }
       → q ≡ appendAll (layoutOf p) (tilesOf p) p ts (λ t. flagged id (flag t))
       → PlaceSays p shape id a q
 

@@ -32,11 +32,12 @@ ghost use Rattle.calls.specs.Overlaps.{notCounted, OverlapsSays};
 // The words of a shape in a list that is binned: those that say it, and its id.
 const BIN_WORDS: usize = 8;
 
-// What a bin answers: its number, the tiles listed and the blocks taken.
+// What a bin answers: its number, the tiles listed, the blocks taken and the tests made.
 pub struct Binned {
     pub number: u32,
     pub tiles: u32,
     pub blocks: u32,
+    pub tests: u32,
 }
 
 // What a release answers: its number, and the blocks given back.
@@ -109,6 +110,7 @@ fn refused_bin(number: u32) -> Binned
         number,
         tiles: 0,
         blocks: 0,
+        tests: 0,
     }
 }
 
@@ -118,7 +120,8 @@ fn place(pool: &mut [u32], header: Header, shape: Shape, id: u32, touched: &mut 
     requires { ⌜ (Sound (layoutOf (now pool)) (now pool)) × (HeaderOf (layoutOf (now pool)) (now pool) header) × (InRange shape) × (id < idLimit) × (4096 ≤ length (now touched)) ⌝ }
     ensures { λ r. ⌜ PlaceSays (now (pool .entry)) shape id r (now (pool .exit)) ⌝ }
 {
-    let count = walk::touched_tiles(header.screen, shape, touched);
+    let walked = stepping::walk_through(header.screen, shape, touched);
+    let count = walked.count;
     let tiles = wide(header.tiles);
     let blocks = lists::need(pool, header.layout, tiles, touched, wide(count));
     if wide(lists::free(pool, header.layout)) < blocks {
@@ -129,6 +132,7 @@ fn place(pool: &mut [u32], header: Header, shape: Shape, id: u32, touched: &mut 
         number: 0,
         tiles: count,
         blocks: narrow(blocks),
+        tests: walked.tests,
     }
 }
 
@@ -145,7 +149,7 @@ fn cause(shape: Shape, id: u32) -> u32
     0
 }
 
-// Bins a whole-number shape: 0, the tiles listed and the blocks taken; or 4, 5, 7, 8 in that order.
+// Bins a whole-number shape: 0, the tiles listed, the blocks taken and the tests made; or 4, 5, 7, 8 in that order.
 pub fn bin(pool: &mut [u32], shape: Shape, id: u32) -> Binned
     ensures { λ r. ⌜ BinSays (now (pool .entry)) shape id r (now (pool .exit)) ⌝ }
 {
@@ -161,7 +165,7 @@ pub fn bin(pool: &mut [u32], shape: Shape, id: u32) -> Binned
     place(pool, header, shape, id, &mut touched)
 }
 
-// Bins a shape in pixels: 0, the tiles listed and the blocks taken; or 4, 5, then 6 or 7 as its first offence decides, then 8.
+// Bins a shape in pixels: 0, the tiles listed, the blocks taken and the tests made; or 4, 5, then 6 or 7 as its first offence decides, then 8.
 pub fn bin_pixels(pool: &mut [u32], shape: PixelShape, id: u32) -> Binned
     ensures { λ r. ⌜ BinPixelsSays (now (pool .entry)) shape id r (now (pool .exit)) ⌝ }
 {

@@ -73,7 +73,7 @@ module _ {L : Layout} (k : Known L) {n : ℕ} {p w : List ℕ} {s : State} (W : 
   place-follows : {shape : Shape} {id : ℕ} {a : Binned} {q : List ℕ} → id < idLimit → PlaceSays p shape id a q → a .number ≢ 8
       → Follows L n (λ v. PlaceSays w shape id a v) q
   place-follows i (PlaceSays.no-room ts T l e f) ne = absurd (ne (ap (λ (b : Binned). b .number) e))
-  place-follows {shape} {id} {a} {q} i (PlaceSays.done ts T l flag F e f) ne =
+  place-follows {shape} {id} {a} {q} i (PlaceSays.done ts T l flag F tests C e f) ne =
       let entry : ℕ → ℕ = (λ t. flagged id (flag t)) in
       let D = touched-distinct T in
       let T′ : TouchedTiles (screenOf w) shape ts = subst (λ (d : Screen). TouchedTiles d shape ts) (sym (W .screens)) T in

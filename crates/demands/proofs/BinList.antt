@@ -76,7 +76,7 @@ answer-among S (BinSays.damaged n e f) = absurd (n S)
 answer-among S (BinSays.bad-id S′ i e f) = inr (inl (ap (λ (b : Binned). b .number) e))
 answer-among S (BinSays.out-of-range S′ i o e f) = inr (inr (inl (ap (λ (b : Binned). b .number) e)))
 answer-among S (BinSays.placed S′ i o (PlaceSays.no-room ts T l e f)) = inr (inr (inr (inl (ap (λ (b : Binned). b .number) e))))
-answer-among S (BinSays.placed S′ i o (PlaceSays.done ts T l flag F e f)) = inl (ap (λ (b : Binned). b .number) e)
+answer-among S (BinSays.placed S′ i o (PlaceSays.done ts T l flag F tests C e f)) = inl (ap (λ (b : Binned). b .number) e)
 
 bytes-among : (ws : List ℤ) (bytes p : List ℕ) → Sound (layoutOf p) p → (n : ℕ) (q : List ℕ) → OneByOne ws bytes n p q
     → (k : ℕ) → k < n → Among (getD bytes k 0) (0 ∷ 5 ∷ 7 ∷ 8 ∷ [])

@@ -46,7 +46,7 @@ acceptance z out = record { number-is = inl z; refused = λ ne. absurd (ne z); a
 placed-either : {p : List ℕ} {shape : Shape} {id : ℕ} {a : Binned} {q : List ℕ} → Sound (layoutOf p) p → id < idLimit → PlaceSays p shape id a q
     → ((a ≡ refusedBin 8) × (q ≡ p)) ⊎ ((a .number ≡ 0) × Outside (room (layoutOf p) (tilesOf p) (blocksOf p)) p q)
 placed-either S i (PlaceSays.no-room ts T l e f) = inl (e, f)
-placed-either {p} {shape} {id} {a} {q} S i (PlaceSays.done ts T l flag F e f) =
+placed-either {p} {shape} {id} {a} {q} S i (PlaceSays.done ts T l flag F tests C e f) =
     inr (ap (λ (b : Binned). b .number) e, rw f (kept-outside S (bin-appends S id i T l flag .kept)))
 
 number-of : {a : Binned} {n : ℕ} → a ≡ refusedBin n → a .number ≡ n

@@ -62,25 +62,25 @@ appended-lists {p} id S T flag F A t h Wholly w =
 module _ {p : List ℕ} {shape : Shape} {id : ℕ} {a : Binned} {q : List ℕ} where
   place-other : {n : ℕ} → PlaceSays p shape id a q → a .number ≡ n → 8 ≢ n → 0 ≢ n → ⊥
   place-other (PlaceSays.no-room ts T l e f) z ne ne′ = other e z ne
-  place-other (PlaceSays.done ts T l flag F e f) z ne ne′ = ne′ (sym (ap (λ (b : Binned). b .number) e) ∙ z)
+  place-other (PlaceSays.done ts T l flag F tests C e f) z ne ne′ = ne′ (sym (ap (λ (b : Binned). b .number) e) ∙ z)
 
   place-no-room : id < idLimit → InRange shape → PlaceSays p shape id a q → a .number ≡ 8 → NoRoom p shape id
   place-no-room i o (PlaceSays.no-room ts T l e f) z = (record { id< = i; in-range = o; ts = ts; touched = T }, l)
-  place-no-room i o (PlaceSays.done ts T l flag F e f) z = absurd (omega (arith, ap (λ (b : Binned). b .number) e))
+  place-no-room i o (PlaceSays.done ts T l flag F tests C e f) z = absurd (omega (arith, ap (λ (b : Binned). b .number) e))
 
   place-done : id < idLimit → InRange shape → PlaceSays p shape id a q → a .number ≡ 0 → HasRoom p shape id
   place-done i o (PlaceSays.no-room ts T l e f) z = other e z (omega arith)
-  place-done i o (PlaceSays.done ts T l flag F e f) z = (record { id< = i; in-range = o; ts = ts; touched = T }, l)
+  place-done i o (PlaceSays.done ts T l flag F tests C e f) z = (record { id< = i; in-range = o; ts = ts; touched = T }, l)
 
   place-stays : Sound (layoutOf p) p → id < idLimit → PlaceSays p shape id a q → StaysSound p q
   place-stays S i (PlaceSays.no-room ts T l e f) = same-stays S f
-  place-stays S i (PlaceSays.done ts T l flag F e f) =
+  place-stays S i (PlaceSays.done ts T l flag F tests C e f) =
       let A = bin-appends S id i T l flag in
       subst (λ (x : List ℕ). StaysSound p x) (sym f) (kept-stays S (A .kept) (A .sound))
 
   place-listed : Sound (layoutOf p) p → id < idLimit → PlaceSays p shape id a q → a .number ≡ 0 → Listed p shape id a q
   place-listed S i (PlaceSays.no-room ts T l e f) z = other e z (omega arith)
-  place-listed S i (PlaceSays.done ts T l flag F e f) z =
+  place-listed S i (PlaceSays.done ts T l flag F tests C e f) z =
       let A = bin-appends S id i T l flag in
       subst (λ (x : List ℕ). Listed p shape id a x) (sym f)
       (record {

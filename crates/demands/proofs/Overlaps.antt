@@ -49,5 +49,5 @@ counted-as-binned (BinSays.damaged n e k) z h = absurd (omega (arith, ap (λ (b 
 counted-as-binned (BinSays.bad-id l n e k) z h = absurd (omega (arith, ap (λ (b : Binned). b .number) e))
 counted-as-binned (BinSays.out-of-range l i n e k) z h = absurd (omega (arith, ap (λ (b : Binned). b .number) e))
 counted-as-binned (BinSays.placed l i r (PlaceSays.no-room ts t n e k)) z h = absurd (omega (arith, ap (λ (b : Binned). b .number) e))
-counted-as-binned {p} {shape = shape} (BinSays.placed l i r (PlaceSays.done ts t n flag F e k)) z h =
+counted-as-binned {p} {shape = shape} (BinSays.placed l i r (PlaceSays.done ts t n flag F tests C e k)) z h =
     ap (λ (b : Binned). b .tiles) e ∙ counts-once (list-counts (screenOf p) shape (l .opened .screen) ts t) h

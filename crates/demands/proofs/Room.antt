@@ -141,7 +141,7 @@ module _ {p w : List ℕ} (S : SameRoom p w) where
       → Follows (λ v. PlaceSays w shape id a v) q
   place-follows P i (PlaceSays.no-room ts T l e f) =
       unchanged _ f (PlaceSays.no-room ts (touched-same T) (omega (arith, need-same (touched-distinct T), free-same)) e refl)
-  place-follows {shape} {id} P i (PlaceSays.done ts T l flag F e f) =
+  place-follows {shape} {id} P i (PlaceSays.done ts T l flag F tests C e f) =
       let needs = need-same (touched-distinct T) in (
         appendAll (layoutOf w) (tilesOf w) w ts (λ t. flagged id (flag t)),
         PlaceSays.done ts (touched-same T) (omega (arith, free-same)) flag (subst (λ (d : Screen). FlagsOf d shape flag) (sym screen-same) F) (rw needs e) refl,

@@ -6,3 +6,4 @@ pub mod Tests
 pub mod Going
 pub mod As
 pub mod Unique
+pub mod Exists

@@ -31,8 +31,8 @@ pixel x y = record { x = x; y = y }
 abbrev pub rounded : (number : ℕ) (unit : ℤ) → Rounded
 rounded number unit = record { number = number; unit = unit }
 
-abbrev pub binned : (number tiles blocks : ℕ) → Binned
-binned number tiles blocks = record { number = number; tiles = tiles; blocks = blocks }
+abbrev pub binned : (number tiles blocks tests : ℕ) → Binned
+binned number tiles blocks tests = record { number = number; tiles = tiles; blocks = blocks; tests = tests }
 
 abbrev pub released : (number blocks : ℕ) → Released
 released number blocks = record { number = number; blocks = blocks }

@@ -93,12 +93,20 @@ pub extern "C" fn flourscoop_release(pool: &mut [u32], tile: u32, blocks: &mut u
 }
 
 // Bins a shape in units.
-fn bin(pool: &mut [u32], shape: Shape, id: u32, tiles: &mut u32, blocks: &mut u32) -> u32
-    ensures { λ r. ⌜ BinSays (now (pool .entry)) shape id (binned r (now (tiles .exit)) (now (blocks .exit))) (now (pool .exit)) ⌝ }
+fn bin(
+    pool: &mut [u32],
+    shape: Shape,
+    id: u32,
+    tiles: &mut u32,
+    blocks: &mut u32,
+    tests: &mut u32,
+) -> u32
+    ensures { λ r. ⌜ BinSays (now (pool .entry)) shape id (binned r (now (tiles .exit)) (now (blocks .exit)) (now (tests .exit))) (now (pool .exit)) ⌝ }
 {
     let answer = calls::bin(pool, shape, id);
     *tiles = answer.tiles;
     *blocks = answer.blocks;
+    *tests = answer.tests;
     answer.number
 }
 
@@ -109,12 +117,14 @@ fn bin_pixels(
     id: u32,
     tiles: &mut u32,
     blocks: &mut u32,
+    tests: &mut u32,
 ) -> u32
-    ensures { λ r. ⌜ BinPixelsSays (now (pool .entry)) shape id (binned r (now (tiles .exit)) (now (blocks .exit))) (now (pool .exit)) ⌝ }
+    ensures { λ r. ⌜ BinPixelsSays (now (pool .entry)) shape id (binned r (now (tiles .exit)) (now (blocks .exit)) (now (tests .exit))) (now (pool .exit)) ⌝ }
 {
     let answer = calls::bin_pixels(pool, shape, id);
     *tiles = answer.tiles;
     *blocks = answer.blocks;
+    *tests = answer.tests;
     answer.number
 }
 
@@ -149,7 +159,7 @@ fn corner_cover(screen: Screen, tile: u32, shape: Shape, cover: &mut u32) -> u32
     answer.number
 }
 
-// Bins a point in units: 0, the tiles listed and the blocks taken; or 4, 5, 7, 8 in that order.
+// Bins a point in units: 0, the tiles listed, the blocks taken and the tests made; or 4, 5, 7, 8 in that order.
 #[no_mangle]
 pub extern "C" fn flourscoop_bin_point(
     pool: &mut [u32],
@@ -158,8 +168,9 @@ pub extern "C" fn flourscoop_bin_point(
     y1: i32,
     tiles: &mut u32,
     blocks: &mut u32,
+    tests: &mut u32,
 ) -> u32
-    ensures { λ r. ⌜ BinSays (now (pool .entry)) (Point (vertex x1 y1)) id (binned r (now (tiles .exit)) (now (blocks .exit))) (now (pool .exit)) ⌝ }
+    ensures { λ r. ⌜ BinSays (now (pool .entry)) (Point (vertex x1 y1)) id (binned r (now (tiles .exit)) (now (blocks .exit)) (now (tests .exit))) (now (pool .exit)) ⌝ }
 {
     bin(
         pool,
@@ -167,10 +178,11 @@ pub extern "C" fn flourscoop_bin_point(
         id,
         tiles,
         blocks,
+        tests,
     )
 }
 
-// Bins a line in units: 0, the tiles listed and the blocks taken; or 4, 5, 7, 8 in that order.
+// Bins a line in units: 0, the tiles listed, the blocks taken and the tests made; or 4, 5, 7, 8 in that order.
 #[no_mangle]
 pub extern "C" fn flourscoop_bin_line(
     pool: &mut [u32],
@@ -181,8 +193,9 @@ pub extern "C" fn flourscoop_bin_line(
     y2: i32,
     tiles: &mut u32,
     blocks: &mut u32,
+    tests: &mut u32,
 ) -> u32
-    ensures { λ r. ⌜ BinSays (now (pool .entry)) (Line (vertex x1 y1) (vertex x2 y2)) id (binned r (now (tiles .exit)) (now (blocks .exit))) (now (pool .exit)) ⌝ }
+    ensures { λ r. ⌜ BinSays (now (pool .entry)) (Line (vertex x1 y1) (vertex x2 y2)) id (binned r (now (tiles .exit)) (now (blocks .exit)) (now (tests .exit))) (now (pool .exit)) ⌝ }
 {
     bin(
         pool,
@@ -190,10 +203,11 @@ pub extern "C" fn flourscoop_bin_line(
         id,
         tiles,
         blocks,
+        tests,
     )
 }
 
-// Bins a triangle in units: 0, the tiles listed and the blocks taken; or 4, 5, 7, 8 in that order.
+// Bins a triangle in units: 0, the tiles listed, the blocks taken and the tests made; or 4, 5, 7, 8 in that order.
 #[no_mangle]
 pub extern "C" fn flourscoop_bin_triangle(
     pool: &mut [u32],
@@ -206,8 +220,9 @@ pub extern "C" fn flourscoop_bin_triangle(
     y3: i32,
     tiles: &mut u32,
     blocks: &mut u32,
+    tests: &mut u32,
 ) -> u32
-    ensures { λ r. ⌜ BinSays (now (pool .entry)) (Triangle (vertex x1 y1) (vertex x2 y2) (vertex x3 y3)) id (binned r (now (tiles .exit)) (now (blocks .exit))) (now (pool .exit)) ⌝ }
+    ensures { λ r. ⌜ BinSays (now (pool .entry)) (Triangle (vertex x1 y1) (vertex x2 y2) (vertex x3 y3)) id (binned r (now (tiles .exit)) (now (blocks .exit)) (now (tests .exit))) (now (pool .exit)) ⌝ }
 {
     bin(
         pool,
@@ -219,6 +234,7 @@ pub extern "C" fn flourscoop_bin_triangle(
         id,
         tiles,
         blocks,
+        tests,
     )
 }
 
@@ -230,7 +246,7 @@ pub extern "C" fn flourscoop_bin_list(pool: &mut [u32], list: &[i32], answers: &
     calls::bin_list(pool, list, answers)
 }
 
-// Bins a point in pixels: 0, the tiles listed and the blocks taken; or 4, 5, then 6 or 7 as its first offence decides, then 8.
+// Bins a point in pixels: 0, the tiles listed, the blocks taken and the tests made; or 4, 5, then 6 or 7 as its first offence decides, then 8.
 #[no_mangle]
 pub extern "C" fn flourscoop_bin_pixels_point(
     pool: &mut [u32],
@@ -239,8 +255,9 @@ pub extern "C" fn flourscoop_bin_pixels_point(
     y1: f32,
     tiles: &mut u32,
     blocks: &mut u32,
+    tests: &mut u32,
 ) -> u32
-    ensures { λ r. ⌜ BinPixelsSays (now (pool .entry)) (PixelShape.Point (pixel x1 y1)) id (binned r (now (tiles .exit)) (now (blocks .exit))) (now (pool .exit)) ⌝ }
+    ensures { λ r. ⌜ BinPixelsSays (now (pool .entry)) (PixelShape.Point (pixel x1 y1)) id (binned r (now (tiles .exit)) (now (blocks .exit)) (now (tests .exit))) (now (pool .exit)) ⌝ }
 {
     bin_pixels(
         pool,
@@ -248,10 +265,11 @@ pub extern "C" fn flourscoop_bin_pixels_point(
         id,
         tiles,
         blocks,
+        tests,
     )
 }
 
-// Bins a line in pixels: 0, the tiles listed and the blocks taken; or 4, 5, then 6 or 7 as its first offence decides, then 8.
+// Bins a line in pixels: 0, the tiles listed, the blocks taken and the tests made; or 4, 5, then 6 or 7 as its first offence decides, then 8.
 #[no_mangle]
 pub extern "C" fn flourscoop_bin_pixels_line(
     pool: &mut [u32],
@@ -262,8 +280,9 @@ pub extern "C" fn flourscoop_bin_pixels_line(
     y2: f32,
     tiles: &mut u32,
     blocks: &mut u32,
+    tests: &mut u32,
 ) -> u32
-    ensures { λ r. ⌜ BinPixelsSays (now (pool .entry)) (PixelShape.Line (pixel x1 y1) (pixel x2 y2)) id (binned r (now (tiles .exit)) (now (blocks .exit))) (now (pool .exit)) ⌝ }
+    ensures { λ r. ⌜ BinPixelsSays (now (pool .entry)) (PixelShape.Line (pixel x1 y1) (pixel x2 y2)) id (binned r (now (tiles .exit)) (now (blocks .exit)) (now (tests .exit))) (now (pool .exit)) ⌝ }
 {
     bin_pixels(
         pool,
@@ -271,10 +290,11 @@ pub extern "C" fn flourscoop_bin_pixels_line(
         id,
         tiles,
         blocks,
+        tests,
     )
 }
 
-// Bins a triangle in pixels: 0, the tiles listed and the blocks taken; or 4, 5, then 6 or 7 as its first offence decides, then 8.
+// Bins a triangle in pixels: 0, the tiles listed, the blocks taken and the tests made; or 4, 5, then 6 or 7 as its first offence decides, then 8.
 #[no_mangle]
 pub extern "C" fn flourscoop_bin_pixels_triangle(
     pool: &mut [u32],
@@ -287,8 +307,9 @@ pub extern "C" fn flourscoop_bin_pixels_triangle(
     y3: f32,
     tiles: &mut u32,
     blocks: &mut u32,
+    tests: &mut u32,
 ) -> u32
-    ensures { λ r. ⌜ BinPixelsSays (now (pool .entry)) (PixelShape.Triangle (pixel x1 y1) (pixel x2 y2) (pixel x3 y3)) id (binned r (now (tiles .exit)) (now (blocks .exit))) (now (pool .exit)) ⌝ }
+    ensures { λ r. ⌜ BinPixelsSays (now (pool .entry)) (PixelShape.Triangle (pixel x1 y1) (pixel x2 y2) (pixel x3 y3)) id (binned r (now (tiles .exit)) (now (blocks .exit)) (now (tests .exit))) (now (pool .exit)) ⌝ }
 {
     bin_pixels(
         pool,
@@ -300,6 +321,7 @@ pub extern "C" fn flourscoop_bin_pixels_triangle(
         id,
         tiles,
         blocks,
+        tests,
     )
 }
 

@@ -119,8 +119,16 @@ fn join(span: Span, column: u32) -> Span
     requires { ⌜ column ≤ 4096 ⌝ }
     ensures { λ r. ⌜ r ≡ joined span column ⌝ }
 {
-    let start = if column < span.start { column } else { span.start };
-    let end = if span.end <= column { column + 1 } else { span.end };
+    let start = if column < span.start {
+        column
+    } else {
+        span.start
+    };
+    let end = if span.end <= column {
+        column + 1
+    } else {
+        span.end
+    };
     Span { start, end }
 }
 
@@ -129,7 +137,11 @@ fn grown(whole: Span, column: u32, cover: Cover) -> Span
     requires { ⌜ column ≤ 4096 ⌝ }
     ensures { λ r. ⌜ r ≡ grown whole column cover ⌝ }
 {
-    if touch::is_whole(cover) { join(whole, column) } else { whole }
+    if touch::is_whole(cover) {
+        join(whole, column)
+    } else {
+        whole
+    }
 }
 
 // To the right from a column: the first that is missed, or one past the last.

@@ -12,7 +12,7 @@ same-length c = search needs
 
 returns : tie.Need-returns
 returns c =
-    let fits = c .before .before .before .before .before .before .before .fits in
+    let fits = c .before .before .before .before .before .before .before .before .fits in
     rw (kept (fits .x1) (fits .y1)) at (rw (kept (fits .x2) (fits .y2)) at (rw (kept (fits .x3) (fits .y3)) at (c .before .before .bin .ensures)))
 
 pub flourscoop-bin-triangle-spec : {M : Type 1} → statement M

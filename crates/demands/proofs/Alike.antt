@@ -14,6 +14,7 @@ use Rattle.numbers.specs.Flag.{flagged}
 use Rattle.screen.specs.declared.Screen.{Screen}
 use Rattle.screen.specs.Screen.{tiles}
 use Rattle.shape.specs.declared.Shape.{Shape}
+use Rattle.stepping.specs.Stepped.{TestsSay}
 use Rattle.snap.specs.declared.PixelShape.{PixelShape}
 use Rattle.walk.specs.Touched.{TouchedTiles, FlagsOf}
 use Rattle.pool.specs.Words.{Layout, Fair, Known, idLimit, layoutOf}
@@ -79,10 +80,11 @@ module _ {L : Layout} (k : Known L) {n : ℕ} {p w : List ℕ} {s : State} (W : 
       let T′ : TouchedTiles (screenOf w) shape ts = subst (λ (d : Screen). TouchedTiles d shape ts) (sym (W .screens)) T in
       let same = need-same ts D in
       let more = wider-free fair W in
-      let e′ : a ≡ record { number = 0; tiles = length ts; blocks = need (layoutOf w) w ts } = rw same e in (
+      let e′ : a ≡ record { number = 0; tiles = length ts; blocks = need (layoutOf w) w ts; tests = tests } = rw same e in (
         appendAll (layoutOf w) (tilesOf w) w ts entry,
         appendAllState (L .ids) s ts entry,
-        PlaceSays.done ts T′ (omega arith) flag (subst (λ (d : Screen). FlagsOf d shape flag) (sym (W .screens)) F) e′ refl,
+        PlaceSays.done ts T′ (omega arith) flag (subst (λ (d : Screen). FlagsOf d shape flag) (sym (W .screens)) F) tests
+            (subst (λ (d : Screen). TestsSay d shape tests) (sym (W .screens)) C) e′ refl,
         rw (f, layout, layout′) (wider-append-all fair W ts entry D (λ t. entry-in-range k i (flag t)) (rw layout at l)),
       )
 

@@ -52,8 +52,8 @@ placed-either {p} {shape} {id} {a} {q} S i (PlaceSays.done ts T l flag F tests C
 number-of : {a : Binned} {n : ℕ} → a ≡ refusedBin n → a .number ≡ n
 number-of e = ap (λ (b : Binned). b .number) e
 
-zeros : {a : Binned} {n : ℕ} → a ≡ refusedBin n → (a .tiles ≡ 0) × (a .blocks ≡ 0)
-zeros e = (ap (λ (b : Binned). b .tiles) e, ap (λ (b : Binned). b .blocks) e)
+zeros : {a : Binned} {n : ℕ} → a ≡ refusedBin n → (a .tiles ≡ 0) × (a .blocks ≡ 0) × (a .tests ≡ 0)
+zeros e = (ap (λ (b : Binned). b .tiles) e, ap (λ (b : Binned). b .blocks) e, ap (λ (b : Binned). b .tests) e)
 
 bin-1 : {p : List ℕ} {shape : Shape} {id : ℕ} {a : Binned} {q : List ℕ} → BinSays p shape id a q → Demand1 p (binned shape id a) q
 bin-1 (BinSays.damaged n e f) = refusal 4 (number-of e) (omega arith) (inl refl) (zeros e) f

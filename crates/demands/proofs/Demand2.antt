@@ -18,6 +18,8 @@ use Rattle.touch.specs.Cover.{CoverSays}
 use Rattle.touch.proofs.Points.{wholly-touches}
 use Rattle.walk.specs.Touched.{TouchedTiles, FlagsOf}
 use Rattle.walk.proofs.Exists.{flags-exist}
+use Rattle.stepping.specs.Stepped.{TestsSay}
+use Rattle.stepping.proofs.Exists.{tests-exist}
 use Rattle.snap.specs.declared.PixelShape.{PixelShape}
 use Rattle.snap.specs.declared.SnappedShape.{SnappedShape}
 use Rattle.snap.specs.Shapes.{shapeOf}
@@ -88,6 +90,7 @@ module _ {p : List ℕ} {shape : Shape} {id : ℕ} {a : Binned} {q : List ℕ} w
         marks = λ t h. rw (kept-list S (A .kept) t, kept-mark S (A .kept) t) (A .marks t h);
         tiles = (ts, T, ap (λ (b : Binned). b .tiles) e);
         blocks = omega (arith, ap (λ (b : Binned). b .blocks) e, A .taken);
+        tests = subst (TestsSay (screenOf p) shape) (sym (ap (λ (b : Binned). b .tests) e)) C;
       })
 
 -- ---- bin of a shape in units
@@ -147,7 +150,8 @@ module _ {p : List ℕ} {shape : Shape} {id : ℕ} {a : Binned} {q : List ℕ} w
       λ h.
           let o = h .0 in
           let flags = flags-exist (screenOf p) (S .opened .screen) shape in
-          bin-number B (BinSays.placed S (o .id<) (o .in-range) (PlaceSays.done (o .ts) (o .touched) (h .1) (flags .0) (flags .1) refl refl)),
+          let tests = tests-exist (screenOf p) (S .opened .screen) shape in
+          bin-number B (BinSays.placed S (o .id<) (o .in-range) (PlaceSays.done (o .ts) (o .touched) (h .1) (flags .0) (flags .1) (tests .0) (tests .1) refl refl)),
     );
     listed = λ z. bin-done B z .1;
     stays = bin-stays S B;
@@ -221,7 +225,8 @@ module _ {p : List ℕ} {shape : PixelShape} {id : ℕ} {a : Binned} {q : List �
       λ h.
           let o = h .2 .0 in
           let flags = flags-exist (screenOf p) (S .opened .screen) (h .0) in
-          pixels-number B (BinPixelsSays.placed S (o .id<) (h .0) (h .1) (PlaceSays.done (o .ts) (o .touched) (h .2 .1) (flags .0) (flags .1) refl refl)),
+          let tests = tests-exist (screenOf p) (S .opened .screen) (h .0) in
+          pixels-number B (BinPixelsSays.placed S (o .id<) (h .0) (h .1) (PlaceSays.done (o .ts) (o .touched) (h .2 .1) (flags .0) (flags .1) (tests .0) (tests .1) refl refl)),
     );
     listed = λ z. let r = pixels-done B z in (r .0, r .1, r .3);
     stays = pixels-stays S B;

@@ -17,7 +17,7 @@ use Rattle.touch.proofs.Covering.{one-cover}
 use Rattle.snap.specs.declared.PixelShape.{PixelShape}
 use Rattle.snap.specs.declared.SnappedShape.{SnappedShape}
 use Rattle.pool.specs.Words.{Layout, Known, layoutOf}
-use Rattle.pool.specs.Sound.{tilesOf}
+use Rattle.pool.specs.Sound.{screenOf, tilesOf}
 use Rattle.lists.specs.Appending.{need}
 use Rattle.lists.proofs.Several.{append-all-same}
 use Rattle.calls.specs.declared.Binned.{Binned}
@@ -29,6 +29,7 @@ use Rattle.pool.specs.Opening.{OpenSays}
 use Rattle.calls.specs.Tables.{AuditSays, PlaceSays, BinSays, BinPixelsSays, ReadSays, HighWaterSays, ReleaseSays}
 use Rattle.calls.specs.Questions.{RefusedWith, InOrder, AnswerSays, BoxSays, CornerSays}
 use Rattle.walk.proofs.Touched.{touched-tiles-unique}
+use Rattle.stepping.proofs.Unique.{tests-say-one}
 use Rattle.demands.proofs.Touched.{in-touched, tile-proper}
 
 -- the blocks are as they may be, or there is a cause for 2
@@ -75,13 +76,14 @@ high-water-one-outcome (HighWaterSays.done s h e) (HighWaterSays.done s′ h′ 
 
 place-one-outcome : {p : List ℕ} {shape : Shape} {id : ℕ} {a b : Binned} {q r : List ℕ} → PlaceSays p shape id a q → PlaceSays p shape id b r → (a ≡ b) × (q ≡ r)
 place-one-outcome (PlaceSays.no-room ts t l e f) (PlaceSays.no-room ts′ t′ l′ e′ f′) = (cc, cc)
-place-one-outcome {p} (PlaceSays.no-room ts t l e f) (PlaceSays.done ts′ t′ l′ g′ s′ e′ f′) = absurd (omega (arith, ap (need (layoutOf p) p) (touched-tiles-unique t t′)))
-place-one-outcome {p} (PlaceSays.done ts t l g s e f) (PlaceSays.no-room ts′ t′ l′ e′ f′) = absurd (omega (arith, ap (need (layoutOf p) p) (touched-tiles-unique t t′)))
-place-one-outcome {p} {id = id} (PlaceSays.done ts t l g s e f) (PlaceSays.done ts′ t′ l′ g′ s′ e′ f′) =
+place-one-outcome {p} (PlaceSays.no-room ts t l e f) (PlaceSays.done ts′ t′ l′ g′ s′ n′ c′ e′ f′) = absurd (omega (arith, ap (need (layoutOf p) p) (touched-tiles-unique t t′)))
+place-one-outcome {p} (PlaceSays.done ts t l g s n c e f) (PlaceSays.no-room ts′ t′ l′ e′ f′) = absurd (omega (arith, ap (need (layoutOf p) p) (touched-tiles-unique t t′)))
+place-one-outcome {p} {shape} {id} (PlaceSays.done ts t l g s n c e f) (PlaceSays.done ts′ t′ l′ g′ s′ n′ c′ e′ f′) =
     let u = touched-tiles-unique t t′ in
     let same =
     append-all-same (layoutOf p) (tilesOf p) p ts (λ k. flagged id (g k)) (λ k. flagged id (g′ k))
     (λ k h. let k< = in-touched t k h .0 in ap (flagged id) (says-once (s k k<) (s′ k k<))) in
+    let tests = tests-say-one (screenOf p) shape c c′ in
     (cc, cc)
 
 pub bin-one-outcome : {p : List ℕ} {shape : Shape} {id : ℕ} {a b : Binned} {q r : List ℕ} → BinSays p shape id a q → BinSays p shape id b r → (a ≡ b) × (q ≡ r)

@@ -11,6 +11,7 @@ use Rattle.numbers.specs.Flag.{flagged}
 use Rattle.screen.specs.declared.Screen.{Screen}
 use Rattle.screen.specs.Screen.{Allowed, tiles}
 use Rattle.shape.specs.declared.Shape.{Shape}
+use Rattle.stepping.specs.Stepped.{TestsSay}
 use Rattle.snap.specs.declared.PixelShape.{PixelShape}
 use Rattle.walk.specs.Touched.{TouchedTiles, FlagsOf}
 use Rattle.pool.specs.Words.{Layout, Known, idLimit, layoutOf, room}
@@ -144,7 +145,8 @@ module _ {p w : List ℕ} (S : SameRoom p w) where
   place-follows {shape} {id} P i (PlaceSays.done ts T l flag F tests C e f) =
       let needs = need-same (touched-distinct T) in (
         appendAll (layoutOf w) (tilesOf w) w ts (λ t. flagged id (flag t)),
-        PlaceSays.done ts (touched-same T) (omega (arith, free-same)) flag (subst (λ (d : Screen). FlagsOf d shape flag) (sym screen-same) F) (rw needs e) refl,
+        PlaceSays.done ts (touched-same T) (omega (arith, free-same)) flag (subst (λ (d : Screen). FlagsOf d shape flag) (sym screen-same) F) tests
+            (subst (λ (d : Screen). TestsSay d shape tests) (sym screen-same) C) (rw needs e) refl,
         rw f (appended-same P id i T l flag),
       )
 

@@ -16,6 +16,7 @@ use Rattle.screen.specs.Screen.{tiles}
 use Rattle.shape.specs.declared.Shape.{Shape}
 use Rattle.walk.specs.Touched.{TouchedTiles}
 use Rattle.walk.proofs.Exists.{flags-exist}
+use Rattle.stepping.proofs.Exists.{tests-exist}
 use Rattle.pool.specs.Words.{Layout, Known, idLimit, layoutOf}
 use Rattle.pool.specs.State.{State, tileOf}
 use Rattle.pool.specs.Sound.{Sound, screenOf, tilesOf, blocksOf}
@@ -60,12 +61,13 @@ module _ {L : Layout} (known : Known L) {n : ℕ} {p w : List ℕ} {s : State} (
       let same = need-same known W ts (touched-distinct T) in
       let more = wider-free (known-fair known) W in
       let flags = flags-exist (screenOf w) (W .opened′ .screen) shape in
+      let tests = tests-exist (screenOf w) (W .opened′ .screen) shape in
       ⊎-elim
       (λ (lt : freeIn w < need (layoutOf w) w ts). (refusedBin 8, w, PlaceSays.no-room ts T′ lt refl refl, inl refl))
       (λ (ge : need (layoutOf w) w ts ≤ freeIn w). (
-        record { number = 0; tiles = length ts; blocks = need (layoutOf w) w ts },
+        record { number = 0; tiles = length ts; blocks = need (layoutOf w) w ts; tests = tests .0 },
         appendAll (layoutOf w) (tilesOf w) w ts (λ t. flagged id (flags .0 t)),
-        PlaceSays.done ts T′ ge (flags .0) (flags .1) refl refl,
+        PlaceSays.done ts T′ ge (flags .0) (flags .1) (tests .0) (tests .1) refl refl,
         inr (omega (arith, bin-appends (alike-sound′ known W) id i T′ ge (flags .0) .taken)),
       ))
       (lt-or-ge (freeIn w) (need (layoutOf w) w ts))

@@ -29,8 +29,8 @@ refusals (released tile a) = 4 ∷ 9 ∷ []
 
 -- every field of the answer but its number is zero
 abbrev pub RestZero : Entry → Type 0
-RestZero (binned shape id a) = (a .tiles ≡ 0) × (a .blocks ≡ 0)
-RestZero (binned-pixels shape id a) = (a .tiles ≡ 0) × (a .blocks ≡ 0)
+RestZero (binned shape id a) = (a .tiles ≡ 0) × (a .blocks ≡ 0) × (a .tests ≡ 0)
+RestZero (binned-pixels shape id a) = (a .tiles ≡ 0) × (a .blocks ≡ 0) × (a .tests ≡ 0)
 RestZero (found tile place a) = (a .id ≡ 0) × (a .whole ≡ false)
 RestZero (released tile a) = a .blocks ≡ 0
 

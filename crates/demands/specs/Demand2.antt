@@ -14,6 +14,7 @@ use Rattle.touch.specs.declared.Cover.{Cover}
 use Rattle.touch.specs.declared.Cover.the-variants.{Apart, Partly, Wholly}
 use Rattle.touch.specs.Cover.{CoverSays}
 use Rattle.walk.specs.Touched.{TouchedTiles}
+use Rattle.stepping.specs.Stepped.{TestsSay}
 use Rattle.snap.specs.declared.PixelShape.{PixelShape}
 use Rattle.snap.specs.declared.SnappedShape.{SnappedShape}
 use Rattle.snap.specs.Shapes.{shapeOf}
@@ -63,6 +64,8 @@ pub record Listed (p : List ℕ) (shape : Shape) (id : ℕ) (a : Binned) (q : Li
   -- the counts are those of the touched tiles, and of the blocks that are free no more
   pub tiles : (ts : List ℕ) × TouchedTiles (screenOf p) shape ts × (a .tiles ≡ length ts)
   pub blocks : freeIn q + a .blocks ≡ freeIn p
+  -- the tests are those of the stepping walk, and none where a vertex lies off the screen
+  pub tests : TestsSay (screenOf p) shape (a .tests)
 
 -- each number is given exactly where its cause applies and no earlier one; 4 is never given, as the pool is sound
 pub record Demand2Bin (p : List ℕ) (shape : Shape) (id : ℕ) (a : Binned) (q : List ℕ) : Type 0 where

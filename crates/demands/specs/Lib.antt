@@ -11,3 +11,4 @@ pub mod OldLayout
 pub mod Editions
 pub mod BinList
 pub mod Flags
+pub mod Price

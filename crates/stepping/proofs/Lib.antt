@@ -7,3 +7,4 @@ pub mod Going
 pub mod As
 pub mod Unique
 pub mod Exists
+pub mod Price

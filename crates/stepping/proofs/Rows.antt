@@ -38,7 +38,7 @@ numbers-length : (t n : ℕ) → length (numbersFrom t n) ≡ n
 numbers-length t zero = refl
 numbers-length t (suc n) = ap suc (numbers-length (suc t) n)
 
-numbers-at : (t n i : ℕ) → i < n → getD (numbersFrom t n) i 0 ≡ t + i
+pub numbers-at : (t n i : ℕ) → i < n → getD (numbersFrom t n) i 0 ≡ t + i
 numbers-at t zero i h = absurd (omega arith)
 numbers-at t (suc n) zero h = omega arith
 numbers-at t (suc n) (suc i) h = let e = numbers-at (suc t) n i (omega arith) in omega arith
@@ -109,7 +109,7 @@ module _ (d : Screen) (ok : Allowed d) (shape : Shape) where
 
   -- ---- touched tiles, by row and column
 
-  hit-touched : (row column : ℕ) → row < rows d → column < columns d → Hit d shape row column → IsTouched d shape (tileAt d column row)
+  pub hit-touched : (row column : ℕ) → row < rows d → column < columns d → Hit d shape row column → IsTouched d shape (tileAt d column row)
   hit-touched row column r l h = (tile< d ok l r, subst (Touches shape) (sym (tile-rectangle d ok column row l)) h)
 
   touched-hit : (row t : ℕ) → row * columns d ≤ t → t < row * columns d + columns d → IsTouched d shape t → Hit d shape row (t - row * columns d)
@@ -192,13 +192,17 @@ module _ (d : Screen) (ok : Allowed d) (shape : Shape) (on : OnScreen d shape) w
       below-is-touched d ok shape on row run some (w .within) (w .all (run .start) (omega arith) some) (w .only) r reaches
 
   -- no tile of a row before the start row is touched
+  pub touched-from-start : (t : ℕ) → IsTouched d shape t → startRow d shape ≤ rowOf d t
+  touched-from-start t p =
+      let b = touching-meets-box (p .1) in
+      let g = topmost-on-glass d ok shape on in
+      up-least (d .height) (d .s) (ok .height≥) (g .y .from) (g .y .to) (rowOf d t) (≤ℤ-trans (topmost-highest (three shape)) (b .bottom))
+
   pub none-before : (old : List ℕ) → Lists (Below (startRow d shape * columns d) (IsTouched d shape)) 0 old old
   none-before old =
       lists-none (Below (startRow d shape * columns d) (IsTouched d shape)) old
       (λ t p.
-      let b = touching-meets-box (p .1 .1) in
-      let g = topmost-on-glass d ok shape on in
-      let l = up-least (d .height) (d .s) (ok .height≥) (g .y .from) (g .y .to) (rowOf d t) (≤ℤ-trans (topmost-highest (three shape)) (b .bottom)) in
+      let l = touched-from-start t (p .1) in
       let n = column-row d ok t in
       let h = p .0 in
       omega (arith, mul-le-mul-left (columns d) l))

@@ -1,20 +1,15 @@
--- There is one walk of a shape at most: the definition decides which tiles are listed and which are tested. So the tests that are answered are those of the definition, and no more than their price.
-use Prim.Native.Nat.{ℕ, suc, _+_, _*_, _-_, _≤_}
-use mathlib.Core.Path.{_≡_, refl, sym, ap, subst}
+-- There is one walk of a shape at most: the definition decides which tiles are listed and which are tested, and so how many tests there are.
+use Prim.Native.Nat.{ℕ, suc, _≤_}
+use mathlib.Core.Path.{_≡_, refl, sym, ap, subst, _∙_}
 use mathlib.Core.List.{List, _∷_, _++_}
 use native.Mathlib.Omega.{arith}
-use lib.ListN.{length, take}
-use lib.Seq.{length-take-le}
-use Rattle.numbers.proofs.Flag.{length-plains}
+use lib.ListN.{length}
 use Rattle.screen.specs.declared.Screen.{Screen}
 use Rattle.screen.specs.declared.Span.{Span}
-use Rattle.screen.specs.Screen.{Allowed, tiles, tileAt}
+use Rattle.screen.specs.Screen.{tileAt}
 use Rattle.shape.specs.declared.Shape.{Shape}
-use Rattle.walk.proofs.Touched.{touched-tiles-unique}
-use Rattle.stepping.specs.declared.Stepped.{Stepped}
-use Rattle.stepping.specs.Stepping.{OnScreen, Right, Left, Find, InRow, Steps, Walk, startRow, runTiles}
-use Rattle.stepping.specs.Stepped.{SteppedThrough}
-use Rattle.stepping.proofs.Rows.{walk-lists, walk-price}
+use Rattle.stepping.specs.Stepping.{Right, Left, Find, InRow, Steps, Walk, startRow, runTiles}
+use Rattle.stepping.specs.Stepped.{TestsSay}
 
 module _ (d : Screen) (shape : Shape) where
   module _ {row : ℕ} where
@@ -83,24 +78,9 @@ module _ (d : Screen) (shape : Shape) where
       let s = steps-one (omega arith) (w .steps) (w′ .steps) in
       (s .listed, s .tested)
 
-  -- and so have the tests that are answered
-  pub tests-one : {answer answer′ : Stepped} {old new old′ new′ : List ℕ} → SteppedThrough d shape answer old new → SteppedThrough d shape answer′ old′ new′ → answer .tests ≡ answer′ .tests
-  tests-one s s′ =
-      let t = ap length (walk-one (s .walk) (s′ .walk) .1) in
-      let a = s .tests in
-      let b = s′ .tests in
-      omega arith
-
-  -- at most twice the tiles listed and the rows listed
-  pub tests-price : Allowed d → OnScreen d shape → {answer : Stepped} {old new : List ℕ} → 4096 ≤ length old → (s : SteppedThrough d shape answer old new)
-      → answer .tests ≤ 2 * answer .count + (s .walk .row + 1 - startRow d shape)
-  tests-price ok on {answer} {old} {new} room s =
-      let p = walk-price d ok shape on (s .walk) in
-      let e = ap length (touched-tiles-unique (walk-lists d ok shape on (s .walk)) (s .walked .touched)) in
-      let few = s .walked .few in
-      let size = s .walked .size in
-      let t = ok .tiles≤ in
-      let l = length-take-le (answer .count) new (omega arith) in
-      let m = length-plains (take (answer .count) new) in
-      let a = s .tests in
-      omega arith
+  -- and so has what is said of the tests
+  pub tests-say-one : {tests tests′ : ℕ} → TestsSay d shape tests → TestsSay d shape tests′ → tests ≡ tests′
+  tests-say-one (TestsSay.on-screen on us ts w e) (TestsSay.on-screen on′ us′ ts′ w′ e′) = e ∙ ap length (walk-one w w′ .1) ∙ sym e′
+  tests-say-one (TestsSay.on-screen on us ts w e) (TestsSay.off-screen off′ e′) = absurd (off′ on)
+  tests-say-one (TestsSay.off-screen off e) (TestsSay.on-screen on′ us′ ts′ w′ e′) = absurd (off on′)
+  tests-say-one (TestsSay.off-screen off e) (TestsSay.off-screen off′ e′) = e ∙ sym e′

@@ -20,10 +20,10 @@ use Rattle.stepping.specs.Stepped.{TestsSay, RowsOf}
 use Rattle.stepping.proofs.Rows.{numbers-at, hit-touched, steps-whole, touched-from-start, walk-last, walk-lists, walk-price}
 
 -- a column of the row is touched
-record Touched (d : Screen) (shape : Shape) (row : ℕ) : Type 0 where
-  column : ℕ
-  within : column < columns d
-  hit : Hit d shape row column
+pub record Touched (d : Screen) (shape : Shape) (row : ℕ) : Type 0 where
+  pub column : ℕ
+  pub within : column < columns d
+  pub hit : Hit d shape row column
 
 module _ (d : Screen) (ok : Allowed d) (shape : Shape) (on : OnScreen d shape) where
   -- each row from the start row on that was walked has a touched tile
@@ -34,7 +34,7 @@ module _ (d : Screen) (ok : Allowed d) (shape : Shape) (on : OnScreen d shape) w
       let some = w .some in
       record { column = run .start; within = omega arith; hit = subst (λ (r : ℕ). Hit d shape r (run .start)) (sym e) (w .all (run .start) (omega arith) some) }
 
-  row-touched : {row : ℕ} {run : Span} {us ts : List ℕ} → Steps d shape row run us ts → (k : ℕ) → startRow d shape ≤ k → k ≤ row → Touched d shape k
+  pub row-touched : {row : ℕ} {run : Span} {us ts : List ℕ} → Steps d shape row run us ts → (k : ℕ) → startRow d shape ≤ k → k ≤ row → Touched d shape k
   row-touched (Steps.start r) k l h = of-run (Steps.start r) k (omega arith)
   row-touched (Steps.next {row} p f r) k l h =
       ⊎-elim (λ (u : k < suc row). row-touched p k l (omega arith)) (λ (u : suc row ≤ k). of-run (Steps.next p f r) k (omega arith)) (lt-or-ge k (suc row))

@@ -1,6 +1,6 @@
 /* Every call by include/flourscoop.h, from C or C++: document 01's pool case, one answer and one refusal of each, marks, and
-   the blocks that they ask for, tiles wholly covered, and draw calls, all in both editions; tiles that the screen cuts; lists
-   of shapes; the header's rooms, texts and version. */
+   the blocks that they ask for, tiles wholly covered, walks with their tests, and draw calls, all in both editions; tiles
+   that the screen cuts; lists of shapes; the header's rooms, texts and version. */
 #include <float.h>
 #include <math.h>
 #include <stdio.h>
@@ -70,7 +70,7 @@ struct totals {
     uint32_t largest, beside_6, place, beside_7;
 };
 
-static uint32_t value, other;
+static uint32_t value, other, made;
 static int passed, failed;
 
 #ifdef __cplusplus
@@ -79,18 +79,27 @@ static const char language[] = "C++";
 static const char language[] = "C";
 #endif
 
-/* Counts a call with the number and values that it should have given. */
-static void expect(const char *name, uint32_t number, uint32_t wanted, uint32_t wanted_value, uint32_t wanted_other)
+/* Counts a bin with the number, tiles, blocks and tests that it should have given. */
+static void expect_bin(const char *name, uint32_t number, uint32_t wanted, uint32_t tiles, uint32_t blocks, uint32_t tests)
 {
-    if (number == wanted && value == wanted_value && other == wanted_other) {
+    if (number == wanted && value == tiles && other == blocks && made == tests) {
         passed++;
     } else {
         failed++;
-        printf("%s: number %u, values %u %u; expected %u, %u %u\n", name, number, value, other, wanted, wanted_value,
-               wanted_other);
+        printf("%s: number %u, values %u %u %u; expected %u, %u %u %u\n", name, number, value, other, made, wanted, tiles,
+               blocks, tests);
     }
-    value = other = 0;
+    value = other = made = 0;
 }
+
+/* Counts a call with the number and values that it should have given. */
+static void expect(const char *name, uint32_t number, uint32_t wanted, uint32_t wanted_value, uint32_t wanted_other)
+{
+    expect_bin(name, number, wanted, wanted_value, wanted_other, 0);
+}
+
+/* Makes values that a call has to write. */
+static void unwritten(void) { value = other = made = 0xAAAAAAAA; }
 
 /* Counts something that should hold. */
 static void expect_that(int holds, const char *what)
@@ -184,8 +193,10 @@ static void expect_unsound(uint32_t *words, size_t length, const char *what)
     uint32_t before[MOST_WORDS];
     memcpy(before, words, length * sizeof *words);
     expect("audit", flourscoop_audit(words, length), FLOURSCOOP_UNSOUND, 0, 0);
-    expect("bin", flourscoop_bin_point(words, length, 1, 0, 0, &value, &other), FLOURSCOOP_UNSOUND, 0, 0);
-    expect("bin", flourscoop_bin_pixels_point(words, length, 1, 0, 0, &value, &other), FLOURSCOOP_UNSOUND, 0, 0);
+    unwritten();
+    expect("bin", flourscoop_bin_point(words, length, 1, 0, 0, &value, &other, &made), FLOURSCOOP_UNSOUND, 0, 0);
+    unwritten();
+    expect("bin", flourscoop_bin_pixels_point(words, length, 1, 0, 0, &value, &other, &made), FLOURSCOOP_UNSOUND, 0, 0);
     expect_answers("bin_list", words, length, drawn, DRAWN_WORDS, DRAWN, FLOURSCOOP_UNSOUND, NULL);
     expect_read("read", words, length, 0, 0, FLOURSCOOP_UNSOUND, 0, 0);
     expect_mark(words, length, 0, FLOURSCOOP_UNSOUND, 0);
@@ -238,13 +249,14 @@ static void pool_case(void)
     expect_other_layouts_refused();
     expect("audit", flourscoop_audit(pool, room), FLOURSCOOP_DONE, 0, 0);
 
-    expect("bin (0,0)", flourscoop_bin_point(pool, room, 7, 0, 0, &value, &other), FLOURSCOOP_DONE, 1, 1);
+    expect_bin("bin (0,0)", flourscoop_bin_point(pool, room, 7, 0, 0, &value, &other, &made), FLOURSCOOP_DONE, 1, 1, 1);
     keep_binned();
     expect_kept("the words after the bin");
     expect_other_layouts_refused();
     expect_read("read", pool, room, 0, 0, FLOURSCOOP_DONE, 7, 0);
     expect_mark(pool, room, 0, FLOURSCOOP_DONE, 1);
-    expect("bin (256,256)", flourscoop_bin_point(pool, room, 9, 256, 256, &value, &other), FLOURSCOOP_NO_ROOM, 0, 0);
+    unwritten();
+    expect("bin (256,256)", flourscoop_bin_point(pool, room, 9, 256, 256, &value, &other, &made), FLOURSCOOP_NO_ROOM, 0, 0);
     expect_kept("the words after the refusal");
 
     expect("release", flourscoop_release(pool, room, 0, &value), FLOURSCOOP_DONE, 1, 0);
@@ -289,9 +301,9 @@ static int refused_in(uint32_t *words, size_t length, uint32_t blocks)
     int refused = 0;
     expect("open", open_pool(words, length, WIDTH, HEIGHT, S, blocks), FLOURSCOOP_DONE, 0, 0);
     for (uint32_t id = 0; id <= in_tile_0; id++)
-        refused += flourscoop_bin_point(words, length, id, id < in_tile_0 ? 10 : 300, 10, &value, &other) ==
+        refused += flourscoop_bin_point(words, length, id, id < in_tile_0 ? 10 : 300, 10, &value, &other, &made) ==
                    FLOURSCOOP_NO_ROOM;
-    value = other = 0;
+    value = other = made = 0;
     return refused;
 }
 
@@ -311,14 +323,14 @@ static void shapes(void)
     for (int kind = 0; kind < 6; kind++) {
         uint32_t number = 0;
         switch (kind) {
-        case 0: number = flourscoop_bin_point(pool, room, 1, 256, 100, &value, &other); break;
-        case 1: number = flourscoop_bin_line(pool, room, 1, 100, 100, 300, 100, &value, &other); break;
-        case 2: number = flourscoop_bin_triangle(pool, room, 1, 100, 100, 300, 100, 200, 200, &value, &other); break;
-        case 3: number = flourscoop_bin_pixels_point(pool, room, 1, 16, 6.25f, &value, &other); break;
-        case 4: number = flourscoop_bin_pixels_line(pool, room, 1, 6, 6, 19, 6, &value, &other); break;
-        default: number = flourscoop_bin_pixels_triangle(pool, room, 1, 6, 6, 19, 6, 12, 12, &value, &other); break;
+        case 0: number = flourscoop_bin_point(pool, room, 1, 256, 100, &value, &other, &made); break;
+        case 1: number = flourscoop_bin_line(pool, room, 1, 100, 100, 300, 100, &value, &other, &made); break;
+        case 2: number = flourscoop_bin_triangle(pool, room, 1, 100, 100, 300, 100, 200, 200, &value, &other, &made); break;
+        case 3: number = flourscoop_bin_pixels_point(pool, room, 1, 16, 6.25f, &value, &other, &made); break;
+        case 4: number = flourscoop_bin_pixels_line(pool, room, 1, 6, 6, 19, 6, &value, &other, &made); break;
+        default: number = flourscoop_bin_pixels_triangle(pool, room, 1, 6, 6, 19, 6, 12, 12, &value, &other, &made); break;
         }
-        expect("bin", number, FLOURSCOOP_DONE, 2, 2);
+        expect_bin("bin", number, FLOURSCOOP_DONE, 2, 2, 2);
         kept[layout->header + 7] = 1; /* the mark of tile 1 */
         /* in this order, so that the free chain rises again */
         expect("release 1", flourscoop_release(pool, room, 1, &value), FLOURSCOOP_DONE, 1, 0);
@@ -336,10 +348,10 @@ static void covered(void)
     uint32_t *entry = words + layout->header + 32;
     uint8_t answer = 0xAA;
     expect("open", open_pool(words, length, WIDTH, HEIGHT, S, 7), FLOURSCOOP_DONE, 0, 0);
-    expect("units", flourscoop_bin_triangle(words, length, 16777215, 0, 0, 1024, 0, 0, 512, &value, &other),
-           FLOURSCOOP_DONE, 7, 7);
-    expect("pixels", flourscoop_bin_pixels_triangle(words, length, 16777215, 0, 0, 64, 0, 0, 32, &value, &other),
-           FLOURSCOOP_DONE, 7, 0);
+    expect_bin("units", flourscoop_bin_triangle(words, length, 16777215, 0, 0, 1024, 0, 0, 512, &value, &other, &made),
+               FLOURSCOOP_DONE, 7, 7, 7);
+    expect_bin("pixels", flourscoop_bin_pixels_triangle(words, length, 16777215, 0, 0, 64, 0, 0, 32, &value, &other, &made),
+               FLOURSCOOP_DONE, 7, 0, 7);
     expect("list", flourscoop_bin_list(words, length, shape, FLOURSCOOP_BIN_WORDS, &answer, 1), FLOURSCOOP_DONE, 0, 0);
     expect_that(answer == FLOURSCOOP_DONE, "the shape of the list is done");
     for (uint32_t tile = 0; tile < 7; tile++)
@@ -348,7 +360,8 @@ static void covered(void)
             expect_read("read", words, length, tile, place, FLOURSCOOP_DONE, 16777215, whole);
             expect_that(entry[tile * layout->block_words + place] == 16777215 + whole * FLOURSCOOP_WHOLE, "the entry");
         }
-    expect("5", flourscoop_bin_triangle(words, length, FLOURSCOOP_WHOLE, 0, 0, 1024, 0, 0, 512, &value, &other),
+    unwritten();
+    expect("5", flourscoop_bin_triangle(words, length, FLOURSCOOP_WHOLE, 0, 0, 1024, 0, 0, 512, &value, &other, &made),
            FLOURSCOOP_ID, 0, 0);
     /* the last entry that there can be is 33,554,431 */
     *entry = 33554431;
@@ -364,14 +377,57 @@ static void covered(void)
 static uint32_t bin_alone(uint32_t *words, size_t length, const int32_t *shape)
 {
     const uint32_t id = (uint32_t)shape[7];
-    uint32_t tiles, blocks;
+    const int32_t *v = shape + 1;
+    unwritten();
     switch (shape[0]) {
-    case FLOURSCOOP_POINT: return flourscoop_bin_point(words, length, id, shape[1], shape[2], &tiles, &blocks);
-    case FLOURSCOOP_LINE:
-        return flourscoop_bin_line(words, length, id, shape[1], shape[2], shape[3], shape[4], &tiles, &blocks);
+    case FLOURSCOOP_POINT: return flourscoop_bin_point(words, length, id, v[0], v[1], &value, &other, &made);
+    case FLOURSCOOP_LINE: return flourscoop_bin_line(words, length, id, v[0], v[1], v[2], v[3], &value, &other, &made);
     default:
-        return flourscoop_bin_triangle(words, length, id, shape[1], shape[2], shape[3], shape[4], shape[5], shape[6],
-                                       &tiles, &blocks);
+        return flourscoop_bin_triangle(words, length, id, v[0], v[1], v[2], v[3], v[4], v[5], &value, &other, &made);
+    }
+}
+
+/* The same in pixels. */
+static uint32_t bin_alone_in_pixels(uint32_t *words, size_t length, const int32_t *shape)
+{
+    const uint32_t id = (uint32_t)shape[7];
+    float v[6];
+    for (size_t at = 0; at < 6; at++)
+        v[at] = (float)shape[1 + at] / 16;
+    unwritten();
+    switch (shape[0]) {
+    case FLOURSCOOP_POINT: return flourscoop_bin_pixels_point(words, length, id, v[0], v[1], &value, &other, &made);
+    case FLOURSCOOP_LINE:
+        return flourscoop_bin_pixels_line(words, length, id, v[0], v[1], v[2], v[3], &value, &other, &made);
+    default:
+        return flourscoop_bin_pixels_triangle(words, length, id, v[0], v[1], v[2], v[3], v[4], v[5], &value, &other, &made);
+    }
+}
+
+/* The walks of the header's examples, in units and in pixels; and no tests where the bin is refused. */
+static void walks(void)
+{
+    static const struct {
+        int32_t shape[FLOURSCOOP_BIN_WORDS];
+        uint32_t tests, tiles;
+    } examples[] = {
+        {{FLOURSCOOP_TRIANGLE, 10, 10, 1000, 200, 900, 500, 1}, 8, 7},
+        {{FLOURSCOOP_LINE, 300, 500, 1000, 10, 0, 0, 1}, 6, 4},
+        {{FLOURSCOOP_POINT, 256, 256, 0, 0, 0, 0, 1}, 5, 4},
+        {{FLOURSCOOP_POINT, 1024, 512, 0, 0, 0, 0, 1}, 1, 1},
+        {{FLOURSCOOP_TRIANGLE, 0, -1, 1024, 0, 0, 512, 1}, 0, 7},
+    };
+    static uint32_t words[FLOURSCOOP_ROOM_TWO(WIDTH, HEIGHT, S, 7, 64)];
+    const size_t length = layout->header + 32 + 7 * layout->block_words;
+    for (size_t at = 0; at < sizeof examples / sizeof *examples; at++) {
+        const int32_t *shape = examples[at].shape;
+        const uint32_t tests = examples[at].tests, tiles = examples[at].tiles;
+        expect("open", open_pool(words, length, WIDTH, HEIGHT, S, 7), FLOURSCOOP_DONE, 0, 0);
+        expect_bin("walk", bin_alone(words, length, shape), FLOURSCOOP_DONE, tiles, tiles, tests);
+        expect_bin("walk in pixels", bin_alone_in_pixels(words, length, shape), FLOURSCOOP_DONE, tiles, 0, tests);
+        expect("open", open_pool(words, length, WIDTH, HEIGHT, S, tiles - 1), FLOURSCOOP_DONE, 0, 0);
+        expect_bin("no walk", bin_alone(words, length, shape), FLOURSCOOP_NO_ROOM, 0, 0, 0);
+        expect_bin("no walk in pixels", bin_alone_in_pixels(words, length, shape), FLOURSCOOP_NO_ROOM, 0, 0, 0);
     }
 }
 
@@ -432,6 +488,7 @@ static void draw_calls(void)
     expect("open", open_pool(single_pool, draw_room, WIDTH, HEIGHT, S, DRAWN_BLOCKS), FLOURSCOOP_DONE, 0, 0);
     for (size_t place = 0; place < DRAWN; place++)
         singly[place] = (uint8_t)bin_alone(single_pool, draw_room, drawn + FLOURSCOOP_BIN_WORDS * place);
+    value = other = made = 0;
     expect_that(memcmp(singly, drawn_answers, sizeof singly) == 0, "the answers are those of single bins");
     expect_that(memcmp(draw_pool, single_pool, draw_room * sizeof *draw_pool) == 0, "and so are the words");
     for (uint32_t tile = 0; tile < 8; tile++)
@@ -563,15 +620,18 @@ static void point_at(uint32_t width, uint32_t height, uint32_t s, uint32_t tile,
 {
     const float x_pixels = (float)x / 16.0f, y_pixels = (float)y / 16.0f;
     const uint32_t read = touches ? FLOURSCOOP_DONE : FLOURSCOOP_NO_PLACE;
+    /* of the tile to the left, as this one is the last of its row */
+    const uint32_t tests = FLOURSCOOP_ACROSS(width, s) > 1 ? touches : 0;
     char name[64];
     snprintf(name, sizeof name, "(%d,%d) on %u by %u with s = %u", x, y, width, height, s);
     expect(name, flourscoop_box_point(width, height, s, tile, x, y, &value), FLOURSCOOP_DONE, touches, 0);
     expect(name, flourscoop_corner_point(width, height, s, tile, x, y, &value), FLOURSCOOP_DONE, touches, 0);
     expect(name, flourscoop_open(cut, CUT_WORDS, width, height, s, 1), FLOURSCOOP_DONE, 0, 0);
-    expect(name, flourscoop_bin_point(cut, CUT_WORDS, 5, x, y, &value, &other), FLOURSCOOP_DONE, touches, touches);
+    expect_bin(name, flourscoop_bin_point(cut, CUT_WORDS, 5, x, y, &value, &other, &made), FLOURSCOOP_DONE, touches,
+               touches, tests);
     expect_read(name, cut, CUT_WORDS, tile, 0, read, 5 * touches, 0);
-    expect(name, flourscoop_bin_pixels_point(cut, CUT_WORDS, 6, x_pixels, y_pixels, &value, &other), FLOURSCOOP_DONE,
-           touches, 0);
+    expect_bin(name, flourscoop_bin_pixels_point(cut, CUT_WORDS, 6, x_pixels, y_pixels, &value, &other, &made),
+               FLOURSCOOP_DONE, touches, 0, tests);
     expect_read(name, cut, CUT_WORDS, tile, 1, read, 6 * touches, 0);
 }
 
@@ -600,18 +660,20 @@ static void ends(void)
 
     /* 960.5 units go to 960, which is even, and 961 lie past the end */
     expect("open", flourscoop_open(cut, CUT_WORDS, 60, 28, S, 1), FLOURSCOOP_DONE, 0, 0);
-    expect("60.03125", flourscoop_bin_pixels_point(cut, CUT_WORDS, 1, 60.03125f, 28, &value, &other), FLOURSCOOP_DONE, 1,
-           1);
-    expect("60.0625", flourscoop_bin_pixels_point(cut, CUT_WORDS, 1, 60.0625f, 28, &value, &other), FLOURSCOOP_DONE, 0,
-           0);
+    expect_bin("60.03125", flourscoop_bin_pixels_point(cut, CUT_WORDS, 1, 60.03125f, 28, &value, &other, &made),
+               FLOURSCOOP_DONE, 1, 1, 1);
+    expect_bin("60.0625", flourscoop_bin_pixels_point(cut, CUT_WORDS, 1, 60.0625f, 28, &value, &other, &made),
+               FLOURSCOOP_DONE, 0, 0, 0);
     /* a line through the corner, and one a unit past it, whose box the tile meets */
     expect("line", flourscoop_corner_line(60, 28, S, 7, 952, 456, 968, 440, &value), FLOURSCOOP_DONE, 1, 0);
-    expect("line", flourscoop_bin_line(cut, CUT_WORDS, 1, 952, 456, 968, 440, &value, &other), FLOURSCOOP_DONE, 1, 0);
+    expect("line", flourscoop_bin_line(cut, CUT_WORDS, 1, 952, 456, 968, 440, &value, &other, &made), FLOURSCOOP_DONE, 1,
+           0);
     expect("line", flourscoop_box_line(60, 28, S, 7, 953, 456, 969, 440, &value), FLOURSCOOP_DONE, 1, 0);
     expect("line", flourscoop_corner_line(60, 28, S, 7, 953, 456, 969, 440, &value), FLOURSCOOP_DONE, 0, 0);
-    expect("line", flourscoop_bin_line(cut, CUT_WORDS, 1, 953, 456, 969, 440, &value, &other), FLOURSCOOP_DONE, 0, 0);
+    expect("line", flourscoop_bin_line(cut, CUT_WORDS, 1, 953, 456, 969, 440, &value, &other, &made), FLOURSCOOP_DONE, 0,
+           0);
     /* a triangle in what the screen cuts off */
-    expect("triangle", flourscoop_bin_triangle(cut, CUT_WORDS, 1, 970, 300, 1020, 300, 970, 500, &value, &other),
+    expect("triangle", flourscoop_bin_triangle(cut, CUT_WORDS, 1, 970, 300, 1020, 300, 970, 500, &value, &other, &made),
            FLOURSCOOP_DONE, 0, 0);
 }
 
@@ -679,9 +741,12 @@ static void refusals(void)
     }
     expect("3", open_pool(pool, room - 1, WIDTH, HEIGHT, S, BLOCKS), FLOURSCOOP_SHORT, 0, 0);
     expect("4", flourscoop_audit(NULL, 0), FLOURSCOOP_UNSOUND, 0, 0);
-    expect("5", flourscoop_bin_point(pool, room, 16777216, 0, 0, &value, &other), FLOURSCOOP_ID, 0, 0);
-    expect("6", flourscoop_bin_pixels_point(pool, room, 1, INFINITY, 0, &value, &other), FLOURSCOOP_NOT_FINITE, 0, 0);
-    expect("7", flourscoop_bin_point(pool, room, 1, 262144, 0, &value, &other), FLOURSCOOP_OUT_OF_RANGE, 0, 0);
+    unwritten();
+    expect("5", flourscoop_bin_point(pool, room, 16777216, 0, 0, &value, &other, &made), FLOURSCOOP_ID, 0, 0);
+    unwritten();
+    expect("6", flourscoop_bin_pixels_point(pool, room, 1, INFINITY, 0, &value, &other, &made), FLOURSCOOP_NOT_FINITE, 0, 0);
+    unwritten();
+    expect("7", flourscoop_bin_point(pool, room, 1, 262144, 0, &value, &other, &made), FLOURSCOOP_OUT_OF_RANGE, 0, 0);
     expect("9", flourscoop_release(pool, room, 8, &value), FLOURSCOOP_NO_TILE, 0, 0);
     expect("9", flourscoop_high_water(pool, room, 8, &value), FLOURSCOOP_NO_TILE, 0, 0);
     expect_read("9", pool, room, 8, 0, FLOURSCOOP_NO_TILE, 0, 0);
@@ -749,6 +814,7 @@ int main(void)
         refusals();
         blocks_for_marks();
         covered();
+        walks();
         draw_calls();
     }
     longest_draw_call();

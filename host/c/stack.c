@@ -19,7 +19,7 @@ static unsigned char stack[STACK] __attribute__((aligned(16)));
 static uint32_t one[WORDS_ONE], two[WORDS_TWO];
 static uint32_t *pool;
 static size_t words;
-static uint32_t number, value, other;
+static uint32_t number, value, other, made;
 static int32_t units;
 static const int32_t list[] = {
     FLOURSCOOP_TRIANGLE, 0, 0, 12800, 0, 0, 7680,
@@ -39,17 +39,17 @@ static void nothing(void) { number = FLOURSCOOP_DONE; }
 static void open_one(void) { number = flourscoop_open(one, WORDS_ONE, WIDTH, HEIGHT, S, BLOCKS); }
 static void open_two(void) { number = flourscoop_open_two(two, WORDS_TWO, WIDTH, HEIGHT, S, BLOCKS, BLOCK_WORDS); }
 static void audit(void) { number = flourscoop_audit(pool, words); }
-static void bin_point(void) { number = flourscoop_bin_point(pool, words, 1, 256, 256, &value, &other); }
-static void bin_line(void) { number = flourscoop_bin_line(pool, words, 1, 0, 0, 12800, 7680, &value, &other); }
+static void bin_point(void) { number = flourscoop_bin_point(pool, words, 1, 256, 256, &value, &other, &made); }
+static void bin_line(void) { number = flourscoop_bin_line(pool, words, 1, 0, 0, 12800, 7680, &value, &other, &made); }
 static void bin_triangle(void)
 {
-    number = flourscoop_bin_triangle(pool, words, 1, 0, 0, 12800, 0, 0, 7680, &value, &other);
+    number = flourscoop_bin_triangle(pool, words, 1, 0, 0, 12800, 0, 0, 7680, &value, &other, &made);
 }
-static void pixels_point(void) { number = flourscoop_bin_pixels_point(pool, words, 1, 16, 16, &value, &other); }
-static void pixels_line(void) { number = flourscoop_bin_pixels_line(pool, words, 1, 0, 0, 800, 480, &value, &other); }
+static void pixels_point(void) { number = flourscoop_bin_pixels_point(pool, words, 1, 16, 16, &value, &other, &made); }
+static void pixels_line(void) { number = flourscoop_bin_pixels_line(pool, words, 1, 0, 0, 800, 480, &value, &other, &made); }
 static void pixels_triangle(void)
 {
-    number = flourscoop_bin_pixels_triangle(pool, words, 1, 0, 0, 800, 0, 0, 480, &value, &other);
+    number = flourscoop_bin_pixels_triangle(pool, words, 1, 0, 0, 800, 0, 0, 480, &value, &other, &made);
 }
 static void bin_list(void)
 {

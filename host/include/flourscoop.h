@@ -28,7 +28,7 @@
  * STACK, in bytes, as measured, on Arm in an emulator; of those of bin, bin_list and overlaps, 16,384 list the touched
  * tiles
  *               bin      bin_list   overlaps   audit   read    high_water   release   corner   box   open, open_two   unit
- *     x86-64    18,912   18,832     17,104     2,320   2,368   2,352        2,400     352      192   144              16
+ *     x86-64    18,928   18,832     17,104     2,320   2,368   2,352        2,400     496      192   144              16
  *     Arm       18,848   18,800     17,072     2,288   2,320   2,304        2,304     256      160   128              32
  *
  * SCREEN AND UNITS
@@ -126,6 +126,32 @@
  *     word 106 to 169   63 times poison, 0
  *   In a tile that its shape covers wholly, the entry of id 7 is 16777223.
  *
+ * TESTS
+ *   A bin finds the tiles of a shape by tests, each of which says of one tile whether the shape touches it, and tells how
+ *   many it made. Where all vertices are on the screen, with x from 0 to 16*width and y from 0 to 16*height, they are those
+ *   of this walk:
+ *     - It starts in the tile of the topmost vertex, of several the leftmost: in column x/T, rounded down, and row y/T,
+ *       rounded up, less one, each held to the grid. The shape touches that tile; it is not tested.
+ *     - From there it tests to the right until a miss or the grid's edge, and then to the left likewise. The tiles without
+ *       a miss are the run of this row.
+ *     - In the next row it tests the tiles below that run, from left to right, until one is touched. From that one it goes
+ *       to the right and to the left as before.
+ *     - It ends with the last row that the shape touches.
+ *   A tile may be tested twice, and each test counts. They are at most twice the tiles listed, plus one for each row with
+ *   such a tile. How full the pool is does not matter to them.
+ *   Where a vertex is off the screen, the tiles are found in another way, and the number is 0; as is that of a refusal.
+ *   flourscoop_bin_list finds the tiles of its shapes likewise, and tells no tests.
+ *   In versions before 0.8.0 a bin told no tests, and had no pointer for them: a program made with an older header has to be
+ *   compiled anew.
+ *
+ *   Examples, on a screen of 64 by 32 with s = 4, whose tiles are 0 to 3 and below them 4 to 7. Each has the tile where the
+ *   walk starts and those that it tests, in order and with - behind a miss:
+ *     walk 0    3, 10, 10, 1000, 200, 900, 500    from 0: 1 2 3 4- 5 6 7 4-; tests 8, tiles 7, rows 2
+ *     walk 1    2, 300, 500, 1000, 10, 0, 0       from 3: 2 1- 6 7- 5 4-; tests 6, tiles 4, rows 2
+ *     walk 2    1, 256, 256, 0, 0, 0, 0           from 1: 2- 0 4 5 6-; tests 5, tiles 4, rows 2
+ *     walk 3    1, 1024, 512, 0, 0, 0, 0          from 7: 6-; tests 1, tiles 1, rows 1
+ *     walk 4    3, 0, -1, 1024, 0, 0, 512         off the screen: tests 0, tiles 7
+ *
  * HOW MANY BLOCKS
  *   The marks tell. Open a pool with blocks to spare, make the calls of a frame, and add up the blocks that the marks need:
  *     uint32_t tile, mark, blocks = 0, ids = (pool[6] == 8 ? 32 : pool[8]) - 1;
@@ -148,9 +174,9 @@ extern "C" {
 
 /* The version of this header, and of the archive that goes with it. */
 #define FLOURSCOOP_VERSION_MAJOR 0
-#define FLOURSCOOP_VERSION_MINOR 7
+#define FLOURSCOOP_VERSION_MINOR 8
 #define FLOURSCOOP_VERSION_PATCH 0
-#define FLOURSCOOP_VERSION "0.7.0"
+#define FLOURSCOOP_VERSION "0.8.0"
 
 /* The numbers; their texts follow. Where several causes apply, each call's comment has the order of looking for them. */
 #define FLOURSCOOP_DONE 0u
@@ -241,19 +267,20 @@ uint32_t flourscoop_audit(const uint32_t *pool, size_t words);
 /*
  * Appends id to the list of each tile that the shape touches, with whether it covers the tile wholly: to all of them or,
  * where there is no room, to none.
- * Writes the number of those tiles and of the blocks taken. A shape off the screen is done with 0 tiles and 0 blocks.
+ * Writes the number of those tiles, of the blocks taken, and of the tests that it took to find the tiles, as TESTS has it. A
+ * shape off the screen is done with 0 tiles, 0 blocks and 0 tests.
  * Coordinates are in units.
  * Returns 0; or 4, 5, 7, 8, in this order.
  */
 uint32_t flourscoop_bin_point(uint32_t *pool, size_t words, uint32_t id,
                               int32_t x1, int32_t y1,
-                              uint32_t *tiles, uint32_t *blocks);
+                              uint32_t *tiles, uint32_t *blocks, uint32_t *tests);
 uint32_t flourscoop_bin_line(uint32_t *pool, size_t words, uint32_t id,
                              int32_t x1, int32_t y1, int32_t x2, int32_t y2,
-                             uint32_t *tiles, uint32_t *blocks);
+                             uint32_t *tiles, uint32_t *blocks, uint32_t *tests);
 uint32_t flourscoop_bin_triangle(uint32_t *pool, size_t words, uint32_t id,
                                  int32_t x1, int32_t y1, int32_t x2, int32_t y2, int32_t x3, int32_t y3,
-                                 uint32_t *tiles, uint32_t *blocks);
+                                 uint32_t *tiles, uint32_t *blocks, uint32_t *tests);
 
 /*
  * The same with coordinates in pixels. Each goes to its unit, as by flourscoop_unit.
@@ -261,13 +288,13 @@ uint32_t flourscoop_bin_triangle(uint32_t *pool, size_t words, uint32_t id,
  */
 uint32_t flourscoop_bin_pixels_point(uint32_t *pool, size_t words, uint32_t id,
                                      float x1, float y1,
-                                     uint32_t *tiles, uint32_t *blocks);
+                                     uint32_t *tiles, uint32_t *blocks, uint32_t *tests);
 uint32_t flourscoop_bin_pixels_line(uint32_t *pool, size_t words, uint32_t id,
                                     float x1, float y1, float x2, float y2,
-                                    uint32_t *tiles, uint32_t *blocks);
+                                    uint32_t *tiles, uint32_t *blocks, uint32_t *tests);
 uint32_t flourscoop_bin_pixels_triangle(uint32_t *pool, size_t words, uint32_t id,
                                         float x1, float y1, float x2, float y2, float x3, float y3,
-                                        uint32_t *tiles, uint32_t *blocks);
+                                        uint32_t *tiles, uint32_t *blocks, uint32_t *tests);
 
 /*
  * Bins a draw call at a time: the shapes of a list with their ids, one after the other. It audits the pool once. The pool

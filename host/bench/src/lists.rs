@@ -16,3 +16,8 @@ pub fn lists_in(words: &[u32]) -> Vec<Vec<u32>> {
     };
     words[tiles_at..blocks_at].chunks(4).map(list).collect()
 }
+
+/// How many entries all lists have.
+pub fn entries_in(words: &[u32]) -> usize {
+    lists_in(words).iter().map(Vec::len).sum()
+}

@@ -1,5 +1,5 @@
 //! Nanoseconds per call of the archive beside a plain Rust binner, in five runs; of draw calls and of the totals of a list, per
-//! shape; and by turns with another version's archive, where one is given. Screen 800 by 480, s = 4, 2,048 blocks; pools of
+//! shape; what a tile costs, in tests and in time; and by turns with another version's archive, where one is given. Screen 800 by 480, s = 4, 2,048 blocks; pools of
 //! edition one and, in the rows that say so, of edition two with 64 words to a block.
 
 mod clock;
@@ -11,6 +11,7 @@ mod table;
 #[cfg(other)]
 mod turns;
 mod unit;
+mod walks;
 
 use std::hint::black_box;
 
@@ -318,13 +319,14 @@ fn run() -> Vec<Row> {
 }
 
 fn main() {
-    let runs: Vec<Vec<Row>> = (1..=RUNS)
+    let (runs, walks): (Vec<_>, Vec<_>) = (1..=RUNS)
         .map(|count| {
             eprintln!("run {count} of {RUNS}");
-            run()
+            (run(), walks::run())
         })
-        .collect();
+        .unzip();
     table::print(&runs);
+    table::print_walks(&walks);
     #[cfg(other)]
     turns::print();
 }

@@ -54,7 +54,7 @@ impl Axis {
 }
 
 /// The vertices of a shape, the last one again where it has fewer than three.
-fn vertices<V: Copy>(shape: Shape<V>) -> [V; 3] {
+pub fn vertices<V: Copy>(shape: Shape<V>) -> [V; 3] {
     match shape {
         Shape::Point(a) => [a, a, a],
         Shape::Line(a, b) => [a, b, b],
@@ -249,7 +249,7 @@ mod tests {
                 let [a, b, c] = corners.map(vertex);
                 let moved = Vertex { x: c.x, y: c.y + by };
                 for shape in [Shape::Triangle(a, b, moved), Shape::Triangle(b, a, moved), Shape::Triangle(a, b, a)] {
-                    let [tiles, _] = raw::bin(&mut words, 1, shape).done().unwrap();
+                    let [tiles, ..] = raw::bin(&mut words, 1, shape).done().unwrap();
                     assert_eq!(plain.bin(1, shape), tiles as usize, "{shape:?}");
                 }
             }
@@ -265,7 +265,7 @@ mod tests {
     fn a_tile_ends_where_the_screen_ends() {
         let (mut words, mut plain) = (opened(16), Plain::open(SCREEN));
         for line in lines() {
-            let [tiles, _] = raw::bin(&mut words, 1, line).done().unwrap();
+            let [tiles, ..] = raw::bin(&mut words, 1, line).done().unwrap();
             assert_eq!(plain.bin(1, line), tiles as usize, "{line:?}");
         }
         assert!((100..300).contains(&plain.lists[7].len()));

@@ -18,6 +18,22 @@ pub fn small(count: u32) -> Vec<Shape<Vertex>> {
     (0..count).map(at).collect()
 }
 
+/// Thin triangles that reach from near a corner of the screen to near the opposite one, falling to the right and to the left.
+pub fn diagonals(count: u32) -> Vec<Shape<Vertex>> {
+    let at = |k: u32| {
+        let off = |step: u32, most: u32| (k * step % most) as i32;
+        let (from, to) = ([off(37, 2000), off(53, 1000)], [12_800 - off(41, 2000), 7_680 - off(29, 1000)]);
+        let [a, b, c] = [from, [from[0] + 24, from[1]], to];
+        let mirrored = |[x, y]: [i32; 2]| [12_800 - x, y];
+        if k % 2 == 0 {
+            triangle(a, b, c)
+        } else {
+            triangle(mirrored(a), mirrored(b), mirrored(c))
+        }
+    };
+    (0..count).map(at).collect()
+}
+
 /// Triangles that reach from side to side of the screen, in both windings; every 31 of them are much as the first 31.
 pub fn wide(count: u32) -> Vec<Shape<Vertex>> {
     let at = |k: u32| {

@@ -1,5 +1,7 @@
 //! The table of the measures: for each call the middle of its runs and, in brackets, the least and the most.
 
+use crate::walks::Walked;
+
 /// What stands beside a call's time.
 #[derive(Clone, Copy)]
 pub enum Beside {
@@ -86,6 +88,18 @@ pub fn print(runs: &[Vec<Row>]) {
             }
             Beside::PlainOfARange(_) => println!("| {call} | {} | {} | |", archive.range(), plain.text()),
         }
+    }
+}
+
+/// Prints what a tile costs, of some runs, each of the same mixes in the same order.
+pub fn print_walks(runs: &[Vec<Walked>]) {
+    println!();
+    println!("| on the screen | tiles each | tests per tile, through the box | stepping | bin, ns per tile | bin_list, ns per tile |");
+    println!("|---|---|---|---|---|---|");
+    for (at, Walked { kind, tiles, through_box, stepping, .. }) in runs[0].iter().enumerate() {
+        let times = |of: fn(&Walked) -> f64| Spread::of(runs.iter().map(|run| of(&run[at]))).text();
+        let (bin, bin_list) = (times(|walked| walked.bin), times(|walked| walked.bin_list));
+        println!("| {kind} | {} | {through_box:.2} | {stepping:.2} | {bin} | {bin_list} |", number(*tiles));
     }
 }
 

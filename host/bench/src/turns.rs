@@ -1,12 +1,14 @@
 //! The archive by turns with another version's, 0.6.0 or newer: what a call takes by each, and the ratio within each round.
 //! host/measure.sh links a copy of either under names of its own, with every function at a multiple of 64 bytes. Each works on
-//! pools of its own. The read is not among the calls: before 0.7.0 it wrote one value less.
+//! pools of its own. The read is not among the calls: before 0.7.0 it wrote one value less. Before 0.8.0 a bin did too, its
+//! last; on both processors the caller hands over the last arguments and takes them back, so that one too many does no harm.
 
 use std::hint::black_box;
 
 use flourscoop::{bin_list_of, Screen, Shape, Vertex, WHOLE};
 
-use crate::shapes::{small, wide};
+use crate::lists::entries_in;
+use crate::shapes::{diagonals, small, wide};
 use crate::{round, table, Edition, BLOCKS, ROUNDS, SCREEN, TILES};
 
 /// The calls of an archive.
@@ -14,7 +16,7 @@ use crate::{round, table, Edition, BLOCKS, ROUNDS, SCREEN, TILES};
 struct Archive {
     open: unsafe extern "C" fn(*mut u32, usize, u32, u32, u32, u32) -> u32,
     audit: unsafe extern "C" fn(*const u32, usize) -> u32,
-    bin: unsafe extern "C" fn(*mut u32, usize, u32, i32, i32, i32, i32, i32, i32, *mut u32, *mut u32) -> u32,
+    bin: unsafe extern "C" fn(*mut u32, usize, u32, i32, i32, i32, i32, i32, i32, *mut u32, *mut u32, *mut u32) -> u32,
     bin_list: unsafe extern "C" fn(*mut u32, usize, *const i32, usize, *mut u8, usize) -> u32,
     release: unsafe extern "C" fn(*mut u32, usize, u32, *mut u32) -> u32,
 }
@@ -36,6 +38,7 @@ macro_rules! archive {
                 y3: i32,
                 tiles: *mut u32,
                 blocks: *mut u32,
+                tests: *mut u32,
             ) -> u32;
             fn $bin_list(
                 pool: *mut u32,
@@ -69,11 +72,10 @@ impl Archive {
     }
 
     fn bin(self, words: &mut [u32], id: u32, shape: Shape<Vertex>) -> u32 {
-        let Shape::Triangle(a, b, c) = shape else { unreachable!("both mixes are of triangles") };
-        let (mut tiles, mut blocks) = (0, 0);
-        unsafe {
-            (self.bin)(words.as_mut_ptr(), words.len(), id, a.x, a.y, b.x, b.y, c.x, c.y, &mut tiles, &mut blocks)
-        }
+        let Shape::Triangle(a, b, c) = shape else { unreachable!("all mixes are of triangles") };
+        let [mut tiles, mut blocks, mut tests] = [0; 3];
+        let (pool, length) = (words.as_mut_ptr(), words.len());
+        unsafe { (self.bin)(pool, length, id, a.x, a.y, b.x, b.y, c.x, c.y, &mut tiles, &mut blocks, &mut tests) }
     }
 
     fn bin_list(self, words: &mut [u32], list: &[i32], answers: &mut [u8]) -> u32 {
@@ -151,7 +153,9 @@ fn calls_on(edition: Edition, kind: &str, shapes: &[Shape<Vertex>]) {
     audits(edition, &format!("with {kind}"), [&filled[0], &filled[1]]);
     row(&named("bin"), shapes.len(), opened, bin_all);
     let per_shape = named("bin_list") + ", per shape";
-    row(&per_shape, shapes.len(), |turn| (opened(turn), vec![1; shapes.len()]), bin_list);
+    let drawing = |turn| (opened(turn), vec![1; shapes.len()]);
+    row(&per_shape, shapes.len(), drawing, bin_list);
+    row(&(named("bin_list") + ", per tile"), entries_in(&filled[1]), drawing, bin_list);
     row(
         &named("release"),
         TILES as usize,
@@ -178,5 +182,6 @@ pub fn print() {
         audits(edition, "as it was opened", [&opened, &opened]);
         calls_on(edition, "1,500 small shapes", &small(1500));
         calls_on(edition, "31 screen-wide shapes", &wide(31));
+        calls_on(edition, "300 thin diagonals", &diagonals(300));
     }
 }

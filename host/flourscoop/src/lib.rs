@@ -8,7 +8,7 @@
 //! let mut pool = Pool::open(&mut words, screen, 2)?;
 //!
 //! let binned = pool.bin(7, Shape::Point(Vertex { x: 0, y: 0 }))?;
-//! assert_eq!((binned.tiles, binned.blocks), (1, 1));
+//! assert_eq!((binned.tiles, binned.blocks, binned.tests), (1, 1, 1));
 //! assert_eq!(pool.read(0, 0)?, Entry { id: 7, whole: false });
 //!
 //! // four tiles meet in this point, three of them are empty, and one block is free
@@ -101,16 +101,42 @@ impl<V> raw::Answer<V> {
     }
 }
 
-/// Tiles in which a shape was listed, and blocks taken for it.
+/// What the bin of a shape did.
+///
+/// A shape with all vertices on the screen, its ends included, has a walk that starts in the tile of the topmost vertex, of
+/// several the leftmost. In each row it tests tiles to the right until one is not touched or the grid ends, and then to the
+/// left; in the next row first those below the tiles that were touched, from left to right, until one is. It ends with the
+/// last row that the shape touches. The tests are at most twice the tiles, and one for each row of them.
+///
+/// ```
+/// use flourscoop::{room, Binned, Pool, Refusal, Screen, Shape, Vertex};
+///
+/// let screen = Screen { width: 64, height: 32, s: 4 };
+/// let mut words = vec![0; room(screen, 8)?];
+/// let mut pool = Pool::open(&mut words, screen, 8)?;
+/// let [a, b, c] = [[10, 10], [1000, 200], [900, 500]].map(|[x, y]| Vertex { x, y });
+///
+/// // tile 0 is where it starts; 1, 2 and 3 are tested, then 4, which it misses, 5, 6, 7, and 4 again
+/// assert_eq!(pool.bin(1, Shape::Triangle(a, b, c))?, Binned { tiles: 7, blocks: 7, tests: 8 });
+///
+/// // a unit off the screen
+/// let off = Vertex { x: -1, y: 10 };
+/// assert_eq!(pool.bin(2, Shape::Line(off, a))?, Binned { tiles: 1, blocks: 0, tests: 0 });
+/// # Ok::<(), Refusal>(())
+/// ```
 #[derive(Clone, Copy, PartialEq, Eq, Debug)]
 pub struct Binned {
+    /// the tiles in which the shape was listed
     pub tiles: u32,
+    /// the blocks taken for it
     pub blocks: u32,
+    /// the tests of the walk that found the tiles; 0 where a vertex is off the screen, since they are then found in another way
+    pub tests: u32,
 }
 
-impl From<[u32; 2]> for Binned {
-    fn from([tiles, blocks]: [u32; 2]) -> Binned {
-        Binned { tiles, blocks }
+impl From<[u32; 3]> for Binned {
+    fn from([tiles, blocks, tests]: [u32; 3]) -> Binned {
+        Binned { tiles, blocks, tests }
     }
 }
 

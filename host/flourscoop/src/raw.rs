@@ -14,18 +14,18 @@ extern "C" {
     fn flourscoop_release(pool: *mut u32, words: usize, tile: u32, blocks: *mut u32) -> u32;
 
     fn flourscoop_bin_point(pool: *mut u32, words: usize, id: u32,
-        x1: i32, y1: i32, tiles: *mut u32, blocks: *mut u32) -> u32;
+        x1: i32, y1: i32, tiles: *mut u32, blocks: *mut u32, tests: *mut u32) -> u32;
     fn flourscoop_bin_line(pool: *mut u32, words: usize, id: u32,
-        x1: i32, y1: i32, x2: i32, y2: i32, tiles: *mut u32, blocks: *mut u32) -> u32;
+        x1: i32, y1: i32, x2: i32, y2: i32, tiles: *mut u32, blocks: *mut u32, tests: *mut u32) -> u32;
     fn flourscoop_bin_triangle(pool: *mut u32, words: usize, id: u32,
-        x1: i32, y1: i32, x2: i32, y2: i32, x3: i32, y3: i32, tiles: *mut u32, blocks: *mut u32) -> u32;
+        x1: i32, y1: i32, x2: i32, y2: i32, x3: i32, y3: i32, tiles: *mut u32, blocks: *mut u32, tests: *mut u32) -> u32;
 
     fn flourscoop_bin_pixels_point(pool: *mut u32, words: usize, id: u32,
-        x1: f32, y1: f32, tiles: *mut u32, blocks: *mut u32) -> u32;
+        x1: f32, y1: f32, tiles: *mut u32, blocks: *mut u32, tests: *mut u32) -> u32;
     fn flourscoop_bin_pixels_line(pool: *mut u32, words: usize, id: u32,
-        x1: f32, y1: f32, x2: f32, y2: f32, tiles: *mut u32, blocks: *mut u32) -> u32;
+        x1: f32, y1: f32, x2: f32, y2: f32, tiles: *mut u32, blocks: *mut u32, tests: *mut u32) -> u32;
     fn flourscoop_bin_pixels_triangle(pool: *mut u32, words: usize, id: u32,
-        x1: f32, y1: f32, x2: f32, y2: f32, x3: f32, y3: f32, tiles: *mut u32, blocks: *mut u32) -> u32;
+        x1: f32, y1: f32, x2: f32, y2: f32, x3: f32, y3: f32, tiles: *mut u32, blocks: *mut u32, tests: *mut u32) -> u32;
 
     fn flourscoop_bin_list(pool: *mut u32, words: usize, list: *const i32, list_words: usize,
         answers: *mut u8, answer_bytes: usize) -> u32;
@@ -100,19 +100,19 @@ pub fn audit(pool: &[u32]) -> Answer<[u32; 0]> {
     answer(|_| unsafe { flourscoop_audit(pool.as_ptr(), pool.len()) })
 }
 
-/// Bins a shape in units. Values: tiles listed, blocks taken. Numbers: 0, 4, 5, 7, 8.
-pub fn bin(pool: &mut [u32], id: u32, shape: Shape<Vertex>) -> Answer<[u32; 2]> {
-    answer(|[tiles, blocks]| {
+/// Bins a shape in units. Values: tiles listed, blocks taken, tests made. Numbers: 0, 4, 5, 7, 8.
+pub fn bin(pool: &mut [u32], id: u32, shape: Shape<Vertex>) -> Answer<[u32; 3]> {
+    answer(|[tiles, blocks, tests]| {
         call!(flourscoop_bin_point flourscoop_bin_line flourscoop_bin_triangle:
-            (pool.as_mut_ptr(), pool.len(), id) shape (tiles, blocks))
+            (pool.as_mut_ptr(), pool.len(), id) shape (tiles, blocks, tests))
     })
 }
 
-/// Bins a shape in pixels. Values: tiles listed, blocks taken. Numbers: 0, 4, 5, 6, 7, 8.
-pub fn bin_pixels(pool: &mut [u32], id: u32, shape: Shape<Pixel>) -> Answer<[u32; 2]> {
-    answer(|[tiles, blocks]| {
+/// Bins a shape in pixels. Values: tiles listed, blocks taken, tests made. Numbers: 0, 4, 5, 6, 7, 8.
+pub fn bin_pixels(pool: &mut [u32], id: u32, shape: Shape<Pixel>) -> Answer<[u32; 3]> {
+    answer(|[tiles, blocks, tests]| {
         call!(flourscoop_bin_pixels_point flourscoop_bin_pixels_line flourscoop_bin_pixels_triangle:
-            (pool.as_mut_ptr(), pool.len(), id) shape (tiles, blocks))
+            (pool.as_mut_ptr(), pool.len(), id) shape (tiles, blocks, tests))
     })
 }
 

@@ -7,6 +7,7 @@ use crate::cover::{covered, Cover};
 use crate::layout::Layout;
 use crate::runs::Runs;
 use crate::screen::Screen;
+use crate::stepping::tests;
 use crate::touch::in_range;
 use crate::unit::units;
 use crate::{number, Pixel, Vertex};
@@ -234,8 +235,8 @@ impl State {
         Ok(State { layout, screen, blocks, free: free.into(), tiles })
     }
 
-    /// Tiles listed and blocks taken, or the number of the refusal, which changes nothing.
-    pub fn bin(&mut self, id: u32, shape: &[Vertex]) -> Result<[u32; 2], u32> {
+    /// Tiles listed, blocks taken and tests made, or the number of the refusal, which changes nothing.
+    pub fn bin(&mut self, id: u32, shape: &[Vertex]) -> Result<[u32; 3], u32> {
         if id > MOST_ID {
             return Err(number::ID);
         }
@@ -257,11 +258,11 @@ impl State {
             tile.entries.push(if cover == Cover::Wholly { id + WHOLE } else { id });
             tile.mark = tile.mark.max(tile.entries.len() as u32);
         }
-        Ok([covered.len() as u32, need as u32])
+        Ok([covered.len() as u32, need as u32, tests(self.screen, shape)])
     }
 
     /// The same of a shape in pixels.
-    pub fn bin_pixels(&mut self, id: u32, shape: &[Pixel]) -> Result<[u32; 2], u32> {
+    pub fn bin_pixels(&mut self, id: u32, shape: &[Pixel]) -> Result<[u32; 3], u32> {
         if id > MOST_ID {
             return Err(number::ID);
         }

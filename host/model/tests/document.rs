@@ -1,4 +1,4 @@
-//! The model gives what document 01 and requests P1, P2, P4, P6, P8 and P12 list.
+//! The model gives what document 01 and requests P1, P2, P4, P5, P6, P8 and P12 list.
 
 use model::cover::{cover, Cover};
 use model::layout::{Layout, LAYOUTS};
@@ -106,7 +106,7 @@ fn pool_cases() {
         assert_eq!(opened[tile_0..block_0], [0; 32]);
         assert_eq!((opened[block_0], opened[block_1 - 1], opened[words - 1]), (POISON, 2, 0));
 
-        assert_eq!(pool.bin(7, &[[0, 0]]), Ok([1, 1]));
+        assert_eq!(pool.bin(7, &[[0, 0]]), Ok([1, 1, 1]));
         let binned = pool.words();
         assert_eq!((&binned[4..6], &binned[tile_0..tile_0 + 4], binned[block_0]), (&[1, 2][..], &[1; 4][..], 7));
         assert_eq!(pool.bin(9, &[[256, 256]]), Err(number::NO_ROOM));
@@ -125,7 +125,11 @@ fn a_block_holds_all_its_words_but_the_last() {
     for (layout, ids) in LAYOUTS.into_iter().zip([31, 31, 63]) {
         let mut pool = State::opened(layout, SCREEN, 3);
         for entries in 0..2 * ids + 1 {
-            assert_eq!(pool.bin(entries, &[[0, 0]]), Ok([1, u32::from(entries % ids == 0)]), "{layout:?}, {entries}");
+            assert_eq!(
+                pool.bin(entries, &[[0, 0]]),
+                Ok([1, u32::from(entries % ids == 0), 1]),
+                "{layout:?}, {entries}"
+            );
         }
         assert_eq!(pool.tiles[0].blocks, [0, 1, 2]);
         assert_eq!(State::read(&pool.words()), Ok(pool));

@@ -49,7 +49,17 @@ impl Blocks {
 
 /// The number that a call returns and the values that it writes, zeros for those that it has not. The answers to a list are
 /// not among them.
-pub type Outcome = [u32; 3];
+pub type Outcome = [u32; 4];
+
+/// The outcome of a call that returns this number and writes no value but zeros.
+pub const fn alone(number: u32) -> Outcome {
+    [number, 0, 0, 0]
+}
+
+/// The outcome of a call that is done and writes these values.
+pub fn done<const VALUES: usize>(values: [u32; VALUES]) -> Outcome {
+    outcome(Answer { number: number::DONE, values })
+}
 
 impl Call {
     /// A call on a pool with this layout and screen, at a tile of it.
@@ -214,16 +224,13 @@ pub fn open(words: &mut [u32], layout: Layout, screen: Screen, blocks: u32) -> A
 }
 
 fn outcome<const VALUES: usize>(answer: Answer<[u32; VALUES]>) -> Outcome {
-    let mut outcome = [answer.number, 0, 0];
+    let mut outcome = alone(answer.number);
     outcome[1..=VALUES].copy_from_slice(&answer.values);
     outcome
 }
 
 fn expected<const VALUES: usize>(answer: Result<[u32; VALUES], u32>) -> Outcome {
-    outcome(match answer {
-        Ok(values) => Answer { number: number::DONE, values },
-        Err(number) => Answer { number, values: [0; VALUES] },
-    })
+    answer.map_or_else(alone, done)
 }
 
 /// The answers to the questions whether a shape's box meets a tile, and how the shape covers it.
@@ -295,7 +302,7 @@ impl Slot {
             return expected(answer);
         }
         let Some(state) = &mut self.state else {
-            return [number::UNSOUND, 0, 0];
+            return alone(number::UNSOUND);
         };
         match call {
             Call::Open { .. } | Call::Audit => expected(Ok([])),

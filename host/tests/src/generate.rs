@@ -13,6 +13,11 @@ pub fn screen_with([columns, rows, s]: [u32; 3], less: [u32; 2]) -> Screen {
     Screen { width: (columns << s) - less[0], height: (rows << s) - less[1], s }
 }
 
+/// Where a screen ends, in units.
+pub fn end_of(screen: Screen) -> Vertex {
+    [screen.width, screen.height].map(|extent| 16 * extent as i32)
+}
+
 /// The columns, rows and s of every screen of 4,096 tiles.
 pub fn full_screens() -> Vec<[u32; 3]> {
     (3..=6).flat_map(|s| (s..=12 - s).map(move |power| [1 << power, 4096 >> power, s])).collect()

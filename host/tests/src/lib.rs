@@ -1,9 +1,11 @@
 //! What the tests share: fixed seeds, cases, the smallest failing case, the calls on the archive and on the model, the
-//! greatest length that each list had, lists of shapes, draw calls and the bytes lent for their answers.
+//! greatest length that each list had, lists of shapes, draw calls and the bytes lent for their answers, and the forms in which
+//! a shape can be binned.
 
 pub mod answers;
 pub mod call;
 pub mod draw;
+pub mod forms;
 pub mod generate;
 pub mod hold;
 pub mod lengths;

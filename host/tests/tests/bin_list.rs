@@ -4,15 +4,17 @@
 use std::collections::{BTreeMap, BTreeSet};
 use std::hint::black_box;
 
-use flourscoop::{raw, Pool, Refusal};
+use flourscoop::raw::{self, Answer};
+use flourscoop::{Pool, Refusal};
 use model::layout::{Layout, LAYOUTS};
 use model::marked::SCREEN;
 use model::number;
 use model::pool::{State, MOST_BLOCKS};
 use model::screen::Screen;
 use model::shapes::{faults, vertices, Fault, MOST_SHAPES, WORDS_OF_BIN, WORDS_OF_SHAPE};
+use model::stepping::tests;
 use tests::answers::runs_out;
-use tests::call::{shape_of, Call, Slot};
+use tests::call::{alone, shape_of, Call, Slot};
 use tests::draw::Draw;
 use tests::generate;
 use tests::hold::{hold, Case};
@@ -56,9 +58,17 @@ fn pool_for(random: &Random, layout: Layout, screen: Screen, draw: &Draw) -> Sta
     generate::filled(random, layout, screen, &entries, free.min(MOST_BLOCKS as usize - 1500))
 }
 
-/// The number that each shape of a list gets from a bin of its own.
-fn one_by_one(words: &mut [u32], list: &[i32]) -> Vec<u8> {
-    let bin = |bin: &[i32]| raw::bin(words, bin[WORDS_OF_SHAPE] as u32, shape_of(&vertices(bin))).number as u8;
+/// The number that each shape of a list gets from a bin of its own, which makes the tests that the model has for it.
+fn one_by_one(screen: Screen, words: &mut [u32], list: &[i32]) -> Result<Vec<u8>, String> {
+    let bin = |bin: &[i32]| {
+        let shape = vertices(bin);
+        let Answer { number, values: [.., made] } = raw::bin(words, bin[WORDS_OF_SHAPE] as u32, shape_of(&shape));
+        let expected = if number == number::DONE { tests(screen, &shape) } else { 0 };
+        if made != expected {
+            return Err(format!("{shape:?} alone: {made} tests, {expected} by the model"));
+        }
+        Ok(number as u8)
+    };
     list.chunks(WORDS_OF_BIN).map(bin).collect()
 }
 
@@ -121,7 +131,7 @@ impl Case for Drawn {
         let answers = slot.answers.given();
         let mut single = self.words();
         let singly = match number {
-            number::DONE => one_by_one(&mut single, &self.draw.list.words()),
+            number::DONE => one_by_one(self.state.screen, &mut single, &self.draw.list.words())?,
             _ => Vec::new(),
         };
         if answers != singly {
@@ -227,7 +237,7 @@ const BELOW_ZERO: BinWords = [1, 5, 5, 0, 0, 0, 0, -1];
 /// The words are then those that it left.
 fn expect(words: &[u32], draw: &Draw, number: u32, answers: &[(usize, u8)]) -> Vec<u32> {
     let mut slot = Slot::over(words.to_vec(), 0);
-    assert_eq!(slot.call(&Call::BinList(draw.clone())), Ok([number, 0, 0]), "{draw:?}");
+    assert_eq!(slot.call(&Call::BinList(draw.clone())), Ok(alone(number)), "{draw:?}");
     let answers: Vec<u8> = answers.iter().flat_map(|&(times, answer)| std::iter::repeat_n(answer, times)).collect();
     assert!(slot.answers.given() == answers, "{draw:?}");
     assert!(number == number::DONE || slot.words == words, "{draw:?}");

@@ -10,12 +10,11 @@ use model::marked::SCREEN;
 use model::number;
 use model::pool::{State, MOST_BLOCKS, MOST_ENTRY, MOST_ID, WHOLE};
 use model::screen::{Rectangle, Screen};
-use model::{Pixel, Vertex};
-use tests::call::{ask, Blocks, Call, Slot};
-use tests::draw::Draw;
+use model::Vertex;
+use tests::call::{alone, ask, done, Blocks, Call, Slot};
+use tests::forms::{bins, orders};
 use tests::generate::{self, cut_screens};
 use tests::hold::{hold, Case};
-use tests::list::{bin_words, words_of, List};
 use tests::random::Random;
 use tests::smaller::{self, fewer};
 
@@ -91,12 +90,6 @@ impl Known {
     }
 }
 
-/// The vertices in each of their orders.
-fn orders(shape: &[Vertex]) -> Vec<Vec<Vertex>> {
-    let orders = [[0, 1, 2], [0, 2, 1], [1, 0, 2], [1, 2, 0], [2, 0, 1], [2, 1, 0]];
-    orders.map(|order| order.map(|at| shape[at]).to_vec()).to_vec()
-}
-
 #[test]
 fn corner_tells_triangles_of_known_cover_in_every_order_of_their_vertices() {
     let mut covers = BTreeMap::new();
@@ -111,27 +104,11 @@ fn corner_tells_triangles_of_known_cover_in_every_order_of_their_vertices() {
     assert!([Cover::Partly, Cover::Wholly].iter().all(|cover| covers[cover] > 1000));
 }
 
-/// The shape in pixels, which it has exactly.
-fn in_pixels(shape: &[Vertex]) -> Vec<Pixel> {
-    shape.iter().map(|vertex| vertex.map(|unit| (unit as f32 / 16.0).to_bits())).collect()
-}
-
-/// A draw call of one shape.
-fn drawn(id: u32, shape: &[Vertex]) -> Call {
-    let list = List { shapes: vec![(1, bin_words(words_of(shape), id as i32))], rest: Vec::new() };
-    Call::BinList(Draw { list, spare: 0 })
-}
-
-/// The bins of a shape with this id: in units, in pixels and by a draw call.
-fn bins(id: u32, shape: &[Vertex]) -> [Call; 3] {
-    [Call::Bin { id, shape: shape.to_vec() }, Call::BinPixels { id, shape: in_pixels(shape) }, drawn(id, shape)]
-}
-
 /// A pool with a block for each tile.
 fn opened(layout: Layout, screen: Screen) -> Slot {
     let blocks = screen.tiles();
     let mut slot = Slot::over(vec![0; layout.room(screen, blocks)], blocks);
-    assert_eq!(slot.call(&Call::Open { layout, screen, blocks: Blocks::Own }), Ok([number::DONE, 0, 0]));
+    assert_eq!(slot.call(&Call::Open { layout, screen, blocks: Blocks::Own }), Ok(alone(number::DONE)));
     slot
 }
 
@@ -146,7 +123,7 @@ fn every_bin_lists_triangles_of_known_cover_with_it() {
                 let binned = slot.call(&bin).unwrap_or_else(|wrong| panic!("{what}: {wrong}"));
                 assert_eq!(binned[0], number::DONE, "{what}: {bin:?}");
                 let read = slot.call(&Call::Read { tile, place });
-                assert_eq!(read, Ok([number::DONE, MOST_ID, whole]), "{what}: {bin:?} in {layout:?}");
+                assert_eq!(read, Ok(done([MOST_ID, whole])), "{what}: {bin:?} in {layout:?}");
             }
         }
     }
@@ -180,7 +157,7 @@ fn a_shape_without_area_covers_no_tile_wholly() {
                 let mut slot = opened(Layout::One, screen);
                 for (place, bin) in (0..).zip(bins(7, &shape)) {
                     assert_eq!(slot.call(&bin).map(|[number, ..]| number), Ok(number::DONE), "{what}: {bin:?}");
-                    assert_eq!(slot.call(&Call::Read { tile, place }), Ok([number::DONE, 7, 0]), "{what}: {bin:?}");
+                    assert_eq!(slot.call(&Call::Read { tile, place }), Ok(done([7, 0])), "{what}: {bin:?}");
                 }
             }
         }
@@ -221,7 +198,7 @@ fn an_id_keeps_its_limit() {
             for id in [0, 1, MOST_ID - 1, MOST_ID] {
                 for bin in bins(id, shape) {
                     assert_eq!(slot.call(&bin).map(|[number, ..]| number), Ok(number::DONE), "{bin:?}");
-                    assert_eq!(slot.call(&Call::Read { tile: 0, place }), Ok([number::DONE, id, whole]), "{bin:?}");
+                    assert_eq!(slot.call(&Call::Read { tile: 0, place }), Ok(done([id, whole])), "{bin:?}");
                     assert_eq!(slot.words[first + place as usize], id + whole * WHOLE, "{bin:?}");
                     place += 1;
                 }
@@ -229,13 +206,13 @@ fn an_id_keeps_its_limit() {
             assert_eq!(slot.words[first + place as usize - 1], if whole == 1 { MOST_ENTRY } else { MOST_ID });
             for id in [MOST_ID + 1, MOST_ID + 2, MOST_ENTRY, MOST_ENTRY + 1, 1 << 31, u32::MAX] {
                 let [units, pixels, list] = bins(id, shape);
-                assert_eq!(slot.call(&units), Ok([number::ID, 0, 0]), "{id}");
-                assert_eq!(slot.call(&pixels), Ok([number::ID, 0, 0]), "{id}");
-                assert_eq!(slot.call(&list), Ok([number::DONE, 0, 0]), "{id}");
+                assert_eq!(slot.call(&units), Ok(alone(number::ID)), "{id}");
+                assert_eq!(slot.call(&pixels), Ok(alone(number::ID)), "{id}");
+                assert_eq!(slot.call(&list), Ok(alone(number::DONE)), "{id}");
                 assert_eq!(slot.answers.given(), [number::ID as u8], "{id}");
             }
-            assert_eq!(slot.call(&Call::Audit), Ok([number::DONE, 0, 0]));
-            assert_eq!(slot.call(&Call::Read { tile: 0, place }), Ok([number::NO_PLACE, 0, 0]));
+            assert_eq!(slot.call(&Call::Audit), Ok(alone(number::DONE)));
+            assert_eq!(slot.call(&Call::Read { tile: 0, place }), Ok(alone(number::NO_PLACE)));
         }
     }
 }
@@ -278,7 +255,7 @@ impl Case for Read {
         let state = slot.state.clone().ok_or("the pool is not sound")?;
         for (tile, held) in (0..).zip(&state.tiles) {
             for place in 0..=held.entries.len() as u32 {
-                let [number, id, whole] = slot.call(&Call::Read { tile, place })?;
+                let [number, id, whole, _] = slot.call(&Call::Read { tile, place })?;
                 let by_wrapper = Pool::over(&mut slot.words).read(tile, place);
                 let entry = match number {
                     number::DONE => Ok(Entry { id, whole: whole == 1 }),

@@ -8,7 +8,7 @@ use model::marked::SCREEN;
 use model::number;
 use model::pool::{State, MOST_BLOCKS, MOST_ENTRY, MOST_ID, POISON, WHOLE};
 use model::screen::Screen;
-use tests::call::{Call, Slot};
+use tests::call::{alone, done, Call, Slot};
 use tests::draw::Draw;
 use tests::generate::{self, bad_layouts};
 use tests::hold::{hold, Case};
@@ -200,7 +200,7 @@ fn the_audit_says_yes_exactly_for_sound_pools() {
 fn expect_unsound(words: &[u32], what: &str) -> Vec<u32> {
     let mut slot = Slot::over(words.to_vec(), 0);
     for call in Call::each_on_a_pool() {
-        assert_eq!(slot.call(&call), Ok([number::UNSOUND, 0, 0]), "{call:?} on {what}");
+        assert_eq!(slot.call(&call), Ok(alone(number::UNSOUND)), "{call:?} on {what}");
     }
     assert_eq!(slot.words, words, "{what}");
     slot.words
@@ -212,7 +212,7 @@ fn expect_sound(words: &[u32], layout: Layout, what: &str) {
     let state = slot.state.as_ref().unwrap_or_else(|| panic!("{what} is not sound"));
     let (blocks, mark) = (state.tiles[0].blocks.len() as u32, state.tiles[0].mark);
     assert_eq!(state.layout, layout, "{what}");
-    let mut expect = |call, value| assert_eq!(slot.call(&call), Ok([number::DONE, value, 0]), "{call:?} on {what}");
+    let mut expect = |call, value| assert_eq!(slot.call(&call), Ok(done([value])), "{call:?} on {what}");
     expect(Call::Audit, 0);
     expect(Call::HighWater { tile: 0 }, mark);
     expect(Call::Release { tile: 0 }, blocks);
@@ -223,7 +223,7 @@ fn expect_sound(words: &[u32], layout: Layout, what: &str) {
 fn with_entries(layout: Layout, screen: Screen, blocks: u32, entries: u32) -> State {
     let mut state = State::opened(layout, screen, blocks);
     for id in 0..entries {
-        assert_eq!(state.bin(id, &[[1, 1]]).map(|[tiles, _]| tiles), Ok(1));
+        assert_eq!(state.bin(id, &[[1, 1]]).map(|[tiles, ..]| tiles), Ok(1));
     }
     state
 }
@@ -254,7 +254,7 @@ fn an_entry_is_at_most_33554431() {
             for (id, whole) in [(0, 0), (MOST_ID, 0), (0, 1), (1, 1), (MOST_ID, 1)] {
                 let (words, what) = with_entry(id + whole * WHOLE);
                 let read = Slot::over(words.clone(), 0).call(&Call::Read { tile: 0, place });
-                assert_eq!(read, Ok([number::DONE, id, whole]), "{what}");
+                assert_eq!(read, Ok(done([id, whole])), "{what}");
                 expect_sound(&words, layout, &what);
             }
             for entry in [MOST_ENTRY + 1, MOST_ENTRY + 2, 1 << 26, 1 << 31, POISON, u32::MAX] {

@@ -1,4 +1,4 @@
-//! What document 01 and requests P1, P2, P4, P6, P8 and P12 list, by the wrapper.
+//! What document 01 and requests P1, P2, P4, P5, P6, P8 and P12 list, by the wrapper.
 
 use flourscoop::{
     bin_list_of, box_touches, corner_cover, list_of, overlaps, refused, room, room_two, unit, Binned, Cover, Entry,
@@ -9,6 +9,8 @@ use model::listed::{Drawn, Listed, DRAWN, LISTED};
 use model::marked::{Cut, Marked, PoolCase, CUT, MARKED, POOL_CASES, SCREEN};
 use model::pool::MOST_ID;
 use model::screen::Screen;
+use model::stepped::{Stepped, STEPPED};
+use model::stepping::tests;
 use model::unit::TABLE;
 use tests::call::{self, screen_of, shape_of};
 use tests::list::overlaps_of;
@@ -18,13 +20,14 @@ const fn point(x: i32, y: i32) -> Shape<Vertex> {
 }
 
 /// Bins a case on a screen of eight tiles, reads each list, and asks both questions of each tile.
-fn check(screen: Screen, case: &Marked) {
-    let name = format!("{} on {screen:?}", case.name);
-    let (screen, shape) = (screen_of(screen), shape_of(case.shape));
+fn check(case_screen: Screen, case: &Marked) {
+    let name = format!("{} on {case_screen:?}", case.name);
+    let (screen, shape) = (screen_of(case_screen), shape_of(case.shape));
     let mut words = vec![0; room(screen, 8).unwrap()];
     let mut pool = Pool::open(&mut words, screen, 8).unwrap();
     let tiles = case.tiles.len() as u32;
-    assert_eq!(pool.bin(77, shape), Ok(Binned { tiles, blocks: tiles }), "{name}");
+    let binned = Binned { tiles, blocks: tiles, tests: tests(case_screen, case.shape) };
+    assert_eq!(pool.bin(77, shape), Ok(binned), "{name}");
     for tile in 0..8 {
         let (listed, whole) = (case.tiles.contains(&tile), case.whole.contains(&tile));
         let (cover, entry) = match (listed, whole) {
@@ -47,6 +50,20 @@ fn marked_cases() {
 fn a_tile_ends_where_the_screen_ends() {
     for Cut { screen, cases } in CUT {
         cases.iter().for_each(|case| check(screen, case));
+    }
+}
+
+/// A bin tells as many tests as the walk makes by hand, and none for a shape that reaches off the screen.
+#[test]
+fn walks_made_by_hand() {
+    for Stepped { name, screen, shape, walk } in STEPPED {
+        let tests = walk.map_or(0, |(_, tested)| tested.len() as u32);
+        let pixel = |&[x, y]: &[i32; 2]| Pixel { x: x as f32 / 16.0, y: y as f32 / 16.0 };
+        let pixels = Shape::of(&shape.iter().map(pixel).collect::<Vec<_>>()).unwrap();
+        let mut words = vec![0; room(screen_of(screen), 8).unwrap()];
+        let mut pool = Pool::open(&mut words, screen_of(screen), 8).unwrap();
+        let binned = [pool.bin(1, shape_of(shape)), pool.bin_pixels(1, pixels)];
+        assert_eq!(binned.map(|binned| binned.map(|binned| binned.tests)), [Ok(tests); 2], "{name} on {screen:?}");
     }
 }
 
@@ -172,7 +189,7 @@ fn pool_cases() {
         let opened = pool.words().to_vec();
         assert_eq!(pool.high_water(0), Ok(0));
 
-        assert_eq!(pool.bin(7, point(0, 0)), Ok(Binned { tiles: 1, blocks: 1 }));
+        assert_eq!(pool.bin(7, point(0, 0)), Ok(Binned { tiles: 1, blocks: 1, tests: 1 }));
         assert_eq!(pool.words()[4..6], [1, 2]);
         assert_eq!(pool.words()[header.len()..][..4], [1, 1, 1, 1]);
         let binned = pool.words().to_vec();
@@ -207,7 +224,7 @@ fn an_edition_two_pool_is_refused_while_word_6_is_8() {
         };
         let refused = |refusal| (false, Err(refusal), Err(refusal), Err(refusal), Err(refusal));
         assert_eq!(read_with(8), refused(Refusal::Unsound));
-        assert_eq!(read_with(10), (true, Ok(SEVEN), Ok(1), Ok(Binned { tiles: 1, blocks: 0 }), Ok(0)));
+        assert_eq!(read_with(10), (true, Ok(SEVEN), Ok(1), Ok(Binned { tiles: 1, blocks: 0, tests: 1 }), Ok(0)));
     }
 }
 

@@ -10,6 +10,7 @@ use flourscoop::raw::{self, Answer};
 use model::layout::Layout;
 use model::pool::State;
 use model::screen::Screen;
+use model::stepping::tests;
 use model::touch::touched;
 use model::unit::unit;
 use model::{number, Vertex, UNITS};
@@ -56,7 +57,7 @@ impl Images {
     fn new() -> Images {
         let mut state = State::opened(Layout::One, SCREEN, 4);
         let opened = state.words();
-        assert_eq!(state.bin(ID, &[[MEETING, MEETING]]), Ok([4, 4]));
+        assert_eq!(state.bin(ID, &[[MEETING, MEETING]]), Ok([4, 4, 3]));
         Images { opened, listed: state.words() }
     }
 
@@ -64,17 +65,17 @@ impl Images {
     /// x and y exchanged where `mirrored`.
     fn check_bin(&self, bits: u32, mirrored: bool) -> Result<(), String> {
         let expected = unit(bits);
-        let line = diagonal(expected.unwrap_or(0)).map(|vertex| vertex.map(|unit| (unit as f32 / 16.0).to_bits()));
-        let [[_, y1], end] = line;
-        let mut pixels = [[bits, y1], end];
+        let mut line = diagonal(expected.unwrap_or(0));
         if mirrored {
-            pixels.iter_mut().for_each(|pixel| pixel.reverse());
+            line.iter_mut().for_each(|vertex| vertex.reverse());
         }
+        let mut pixels = line.map(|vertex| vertex.map(|unit| (unit as f32 / 16.0).to_bits()));
+        pixels[0][usize::from(mirrored)] = bits;
         let mut words = self.opened.clone();
         let archive = raw::bin_pixels(&mut words, ID, pixels_of(&pixels));
         let (model, image) = match expected {
-            Ok(_) => (Answer { number: 0, values: [4, 4] }, &self.listed),
-            Err(number) => (Answer { number, values: [0, 0] }, &self.opened),
+            Ok(_) => (Answer { number: 0, values: [4, 4, tests(SCREEN, &line)] }, &self.listed),
+            Err(number) => (Answer { number, values: [0; 3] }, &self.opened),
         };
         if archive != model || words != *image {
             return Err(format!(

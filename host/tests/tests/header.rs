@@ -6,7 +6,9 @@ use model::layout::{Layout, LAYOUTS};
 use model::marked::SCREEN;
 use model::overlaps::{overlaps, Totals};
 use model::pool::{State, MOST_ENTRY, MOST_ID, POISON, WHOLE};
-use model::shapes::{MOST_SHAPES, WORDS_OF_BIN, WORDS_OF_SHAPE};
+use model::shapes::{vertices, MOST_SHAPES, WORDS_OF_BIN, WORDS_OF_SHAPE};
+use model::stepping::{walk, Walk};
+use model::touch::touched;
 
 const HEADER: &str = include_str!("../../include/flourscoop.h");
 const WRAPPER: &str = include_str!("../../flourscoop/src/raw.rs");
@@ -219,4 +221,22 @@ fn the_answers_of_the_example_are_the_model_s() {
     assert_eq!(answers, [0, 8, 0, 8, 5, 7, 0, 0]);
     let said = "tile 0 has the list 7, 9, 12, 13*,\n *   tile 1 has 9, 12, 13, and tiles 4 and 5 have 9, 13.\n";
     assert!(HEADER.contains(said));
+}
+
+/// What the header says of a walk.
+fn said_of_walk(shape: &[[i32; 2]]) -> String {
+    let tiles = touched(SCREEN, shape);
+    let Some(Walk { start, tested, rows, .. }) = walk(SCREEN, shape) else {
+        return format!("off the screen: tests 0, tiles {}", tiles.len());
+    };
+    let step = |tile: &u32| format!("{tile}{}", if tiles.contains(tile) { "" } else { "-" });
+    let steps: Vec<String> = tested.iter().map(step).collect();
+    format!("from {start}: {}; tests {}, tiles {}, rows {rows}", steps.join(" "), tested.len(), tiles.len())
+}
+
+#[test]
+fn the_walks_of_the_examples_are_the_model_s() {
+    let (list, said) = listed_in_lines("walk");
+    let walks: Vec<String> = list.chunks(WORDS_OF_SHAPE).map(|words| said_of_walk(&vertices(words))).collect();
+    assert_eq!((said.len(), said), (5, walks.iter().map(String::as_str).collect()));
 }

@@ -8,17 +8,12 @@ use model::number;
 use model::pool::{State, Tile, MOST_BLOCKS};
 use model::screen::Screen;
 use model::Vertex;
-use tests::call::{self, ask, screen_of, Asked, Blocks, Call, Outcome, Slot};
-use tests::generate::{bad_layouts, cut_screens, full_screens, screen_with};
+use tests::call::{self, alone, ask, done, screen_of, Asked, Blocks, Call, Outcome, Slot};
+use tests::generate::{bad_layouts, cut_screens, end_of, full_screens, screen_with};
 
 const ONE_TILE: Screen = Screen { width: 8, height: 8, s: 3 };
 /// Columns, rows and s of screens of 4,096 tiles: the widest, the highest and the squares with the least and largest tiles.
 const FULL: [[u32; 3]; 4] = [[512, 8, 3], [8, 512, 3], [64, 64, 3], [64, 64, 6]];
-
-/// The number, and zero for each value.
-const fn alone(number: u32) -> Outcome {
-    [number, 0, 0]
-}
 
 /// Makes the call on the archive and on the model, compares every word, and expects this outcome of both.
 fn expect(slot: &mut Slot, call: Call, outcome: Outcome) {
@@ -53,7 +48,20 @@ fn bin_at(screen: Screen, tile: u32, id: u32) -> Call {
     Call::Bin { id, shape: vec![middle.map(|along| along as i32)] }
 }
 
-/// A triangle that touches every tile of the first so many rows, and no other; it covers all but those of the last wholly.
+/// The tests of a point that touches these tiles: each of them but the first, and each tile beside them in a row, which it
+/// misses.
+fn tests_of_point(screen: Screen, tiles: &[u32]) -> u32 {
+    let columns = screen.columns();
+    let missed = |tile: &u32| {
+        let left = tile % columns > 0 && !tiles.contains(&(tile - 1));
+        let right = tile % columns < columns - 1 && !tiles.contains(&(tile + 1));
+        u32::from(left) + u32::from(right)
+    };
+    tiles.len() as u32 - 1 + tiles.iter().map(missed).sum::<u32>()
+}
+
+/// A triangle that touches every tile of the first so many rows, and no other; it covers all but those of the last wholly, and
+/// reaches off the screen.
 fn first_rows(screen: Screen, rows: u32) -> Vec<Vertex> {
     let low = (16 << screen.s) * rows as i32 - 1;
     vec![[-262_144, low], [262_143, low], [0, -262_144]]
@@ -127,22 +135,18 @@ fn a_question_is_about_one_of_4096_tiles() {
     }
 }
 
-/// Where the screen ends, in units.
-fn end_of(screen: Screen) -> [i32; 2] {
-    [screen.width, screen.height].map(|extent| 16 * extent as i32)
-}
-
 /// Asks box and corner whether a point touches each of these tiles, and bins it; it should touch them all and no other, or
 /// none.
 fn expect_point(slot: &mut Slot, screen: Screen, point: Vertex, tiles: &[u32], touched: bool) {
-    let listed = if touched { tiles.len() as u32 } else { 0 };
-    expect(slot, Call::Bin { id: 5, shape: vec![point] }, [0, listed, listed]);
+    let listed = tiles.len() as u32;
+    let binned = if touched { done([listed, listed, tests_of_point(screen, tiles)]) } else { alone(number::DONE) };
+    expect(slot, Call::Bin { id: 5, shape: vec![point] }, binned);
     for &tile in tiles {
         let cover = if touched { Cover::Partly } else { Cover::Apart };
         let asked = Asked { boxed: Ok(touched), cover: Ok(cover) };
         assert_eq!(ask(screen, tile, &[point]), Ok(asked), "{point:?} at tile {tile} of {screen:?}");
-        expect(slot, Call::Read { tile, place: 0 }, if touched { [0, 5, 0] } else { alone(number::NO_PLACE) });
-        expect(slot, Call::Release { tile }, [0, u32::from(touched), 0]);
+        expect(slot, Call::Read { tile, place: 0 }, if touched { done([5, 0]) } else { alone(number::NO_PLACE) });
+        expect(slot, Call::Release { tile }, done([u32::from(touched)]));
     }
 }
 
@@ -224,7 +228,8 @@ fn a_slice_is_as_long_as_the_room_or_longer() {
         expect(&mut unopened(words + 1), open(layout, screen, blocks), alone(number::DONE));
 
         let mut pool = opened(layout, screen, blocks);
-        expect(&mut pool, bin_at(screen, 0, 7), if blocks == 0 { alone(number::NO_ROOM) } else { [0, 1, 1] });
+        let binned = done([1, 1, tests_of_point(screen, &[0])]);
+        expect(&mut pool, bin_at(screen, 0, 7), if blocks == 0 { alone(number::NO_ROOM) } else { binned });
         let mut cut = Slot::over(pool.words[..words - 1].to_vec(), blocks);
         for call in Call::each_on_a_pool() {
             expect(&mut cut, call, alone(number::UNSOUND));
@@ -241,13 +246,13 @@ fn a_shape_takes_2048_blocks_and_no_more() {
 
         let mut slot = opened(layout, screen, MOST_BLOCKS);
         expect(&mut slot, Call::Bin { id: 1, shape: first_rows(screen, rows) }, alone(number::NO_ROOM));
-        expect(&mut slot, half(1), [0, 2048, 2048]);
-        expect(&mut slot, half(2), [0, 2048, 0]);
+        expect(&mut slot, half(1), done([2048, 2048, 0]));
+        expect(&mut slot, half(2), done([2048, 0, 0]));
         expect(&mut slot, bin_at(screen, 4095, 3), alone(number::NO_ROOM));
         for tile in [0, columns - 1, columns, 2047 - columns, 2048 - columns, 2047] {
             let whole = u32::from(tile < 2048 - columns);
-            expect(&mut slot, Call::Read { tile, place: 0 }, [0, 1, whole]);
-            expect(&mut slot, Call::Read { tile, place: 1 }, [0, 2, whole]);
+            expect(&mut slot, Call::Read { tile, place: 0 }, done([1, whole]));
+            expect(&mut slot, Call::Read { tile, place: 1 }, done([2, whole]));
             expect(&mut slot, Call::Read { tile, place: 2 }, alone(number::NO_PLACE));
         }
         for tile in [2048, 4095] {
@@ -255,14 +260,14 @@ fn a_shape_takes_2048_blocks_and_no_more() {
         }
         expect(&mut slot, Call::Read { tile: 4096, place: 0 }, alone(number::NO_TILE));
         expect(&mut slot, Call::Release { tile: 4096 }, alone(number::NO_TILE));
-        expect(&mut slot, Call::Release { tile: 4095 }, [0, 0, 0]);
-        expect(&mut slot, Call::Release { tile: 2047 }, [0, 1, 0]);
+        expect(&mut slot, Call::Release { tile: 4095 }, done([0]));
+        expect(&mut slot, Call::Release { tile: 2047 }, done([1]));
         for (tile, mark) in [(0, 2), (2047, 2), (2048, 0), (4095, 0)] {
-            expect(&mut slot, Call::HighWater { tile }, [0, mark, 0]);
+            expect(&mut slot, Call::HighWater { tile }, done([mark]));
         }
         expect(&mut slot, Call::HighWater { tile: 4096 }, alone(number::NO_TILE));
-        expect(&mut slot, bin_at(screen, 4095, 3), [0, 1, 1]);
-        expect(&mut slot, Call::Read { tile: 4095, place: 0 }, [0, 3, 0]);
+        expect(&mut slot, bin_at(screen, 4095, 3), done([1, 1, 1]));
+        expect(&mut slot, Call::Read { tile: 4095, place: 0 }, done([3, 0]));
     }
 }
 
@@ -282,23 +287,23 @@ fn chains_of_1_to_70_blocks_are_read_at_both_ends_of_each_block() {
         for last in 0..CHAIN * ids {
             // the blocks of the two chains alternate
             for tile in 0..2 {
-                expect(&mut slot, bin_at(screen, tile, id(tile, last)), [0, 1, u32::from(last % ids == 0)]);
+                expect(&mut slot, bin_at(screen, tile, id(tile, last)), done([1, u32::from(last % ids == 0), 1]));
             }
             if !ends_a_block(ids, last) {
                 continue;
             }
             for tile in 0..2 {
                 for place in (0..=last).filter(|&place| ends_a_block(ids, place)) {
-                    expect(&mut slot, Call::Read { tile, place }, [0, id(tile, place), 0]);
+                    expect(&mut slot, Call::Read { tile, place }, done([id(tile, place), 0]));
                 }
                 expect(&mut slot, Call::Read { tile, place: last + 1 }, alone(number::NO_PLACE));
-                expect(&mut slot, Call::HighWater { tile }, [0, last + 1, 0]);
+                expect(&mut slot, Call::HighWater { tile }, done([last + 1]));
             }
         }
         expect(&mut slot, bin_at(screen, 0, 0), alone(number::NO_ROOM));
         for tile in 0..2 {
-            expect(&mut slot, Call::Release { tile }, [0, CHAIN, 0]);
-            expect(&mut slot, Call::HighWater { tile }, [0, CHAIN * ids, 0]);
+            expect(&mut slot, Call::Release { tile }, done([CHAIN]));
+            expect(&mut slot, Call::HighWater { tile }, done([CHAIN * ids]));
         }
     }
 }
@@ -312,19 +317,19 @@ fn a_mark_rises_only_past_itself_and_no_release_lowers_it() {
         let mut mark = 0;
         for entries in [0, 3, 2, 3, 4, 0, 1, ids, ids - 1, ids + 1, ids, 3 * ids, 3 * ids - 1, 1] {
             for place in 0..entries {
-                expect(&mut slot, bin_at(ONE_TILE, 0, place), [0, 1, u32::from(place % ids == 0)]);
+                expect(&mut slot, bin_at(ONE_TILE, 0, place), done([1, u32::from(place % ids == 0), 0]));
                 mark = mark.max(place + 1);
-                expect(&mut slot, Call::HighWater { tile: 0 }, [0, mark, 0]);
+                expect(&mut slot, Call::HighWater { tile: 0 }, done([mark]));
             }
             if entries == 3 * ids {
                 expect(&mut slot, bin_at(ONE_TILE, 0, entries), alone(number::NO_ROOM));
             }
-            expect(&mut slot, Call::Release { tile: 0 }, [0, entries.div_ceil(ids), 0]);
-            expect(&mut slot, Call::HighWater { tile: 0 }, [0, mark, 0]);
+            expect(&mut slot, Call::Release { tile: 0 }, done([entries.div_ceil(ids)]));
+            expect(&mut slot, Call::HighWater { tile: 0 }, done([mark]));
         }
         assert_eq!(mark, 3 * ids);
         expect(&mut slot, open(layout, ONE_TILE, 3), alone(number::DONE));
-        expect(&mut slot, Call::HighWater { tile: 0 }, [0, 0, 0]);
+        expect(&mut slot, Call::HighWater { tile: 0 }, done([0]));
     }
 }
 
@@ -339,19 +344,19 @@ fn the_longest_chain_has_2048_blocks() {
         let mut slot = Slot::over(state.words(), MOST_BLOCKS);
         expect(&mut slot, Call::Audit, alone(number::DONE));
         expect(&mut slot, Call::Read { tile: 0, place: full - 1 }, alone(number::NO_PLACE));
-        expect(&mut slot, Call::HighWater { tile: 0 }, [0, full - 1, 0]);
-        expect(&mut slot, bin_at(ONE_TILE, 0, full - 1), [0, 1, 0]);
-        expect(&mut slot, Call::HighWater { tile: 0 }, [0, full, 0]);
+        expect(&mut slot, Call::HighWater { tile: 0 }, done([full - 1]));
+        expect(&mut slot, bin_at(ONE_TILE, 0, full - 1), done([1, 0, 0]));
+        expect(&mut slot, Call::HighWater { tile: 0 }, done([full]));
         // the ends of every fiftieth block, and of the last two
         let looked_at = |place: u32| place / ids % 50 == 0 || place / ids >= MOST_BLOCKS - 2;
         for place in (0..full).filter(|&place| ends_a_block(ids, place) && looked_at(place)) {
-            expect(&mut slot, Call::Read { tile: 0, place }, [0, place, 0]);
+            expect(&mut slot, Call::Read { tile: 0, place }, done([place, 0]));
         }
         expect(&mut slot, Call::Read { tile: 0, place: full }, alone(number::NO_PLACE));
         expect(&mut slot, bin_at(ONE_TILE, 0, full), alone(number::NO_ROOM));
-        expect(&mut slot, Call::Release { tile: 0 }, [0, MOST_BLOCKS, 0]);
-        expect(&mut slot, bin_at(ONE_TILE, 0, 0), [0, 1, 1]);
-        expect(&mut slot, Call::HighWater { tile: 0 }, [0, full, 0]);
+        expect(&mut slot, Call::Release { tile: 0 }, done([MOST_BLOCKS]));
+        expect(&mut slot, bin_at(ONE_TILE, 0, 0), done([1, 1, 0]));
+        expect(&mut slot, Call::HighWater { tile: 0 }, done([full]));
     }
 }
 

@@ -10,7 +10,7 @@ use model::number;
 use model::pool::MOST_BLOCKS;
 use model::screen::Screen;
 use tests::answers::{less_no_room, no_room};
-use tests::call::{Blocks, Call, Outcome, Repeated, Slot};
+use tests::call::{alone, Blocks, Call, Outcome, Repeated, Slot};
 use tests::generate::{self, cut_screens};
 use tests::hold::{hold, Case};
 use tests::random::Random;
@@ -48,7 +48,7 @@ impl List {
     fn opened(&self, blocks: u32) -> Slot {
         let &List { layout, screen, .. } = self;
         let mut slot = Slot::over(vec![0; layout.room(screen, blocks)], blocks);
-        assert_eq!(slot.call(&Call::Open { layout, screen, blocks: Blocks::Own }), Ok([number::DONE, 0, 0]));
+        assert_eq!(slot.call(&Call::Open { layout, screen, blocks: Blocks::Own }), Ok(alone(number::DONE)));
         slot
     }
 

@@ -175,7 +175,7 @@ impl Sequence {
         let mut answers = answers.iter();
         let last_answers = self.calls.iter().map(|Repeated(times, call)| (call, answers.nth(*times as usize - 1)));
         let fewer = |(call, answer): &(&Call, Option<&Outcome>)| match (call.shape(), answer) {
-            (Some(shape), Some([number::DONE, tiles, _])) => *tiles < squares_touched(self.screen, &shape),
+            (Some(shape), Some([number::DONE, tiles, ..])) => *tiles < squares_touched(self.screen, &shape),
             _ => false,
         };
         last_answers.filter(fewer).count()
@@ -184,8 +184,17 @@ impl Sequence {
     /// How many reads, going by these answers, find an entry with the flag.
     fn whole_reads(&self, answers: &[Outcome]) -> usize {
         let found =
-            |(call, answer): &(&Call, &Outcome)| matches!((call, answer), (Call::Read { .. }, [number::DONE, _, 1]));
+            |(call, answer): &(&Call, &Outcome)| matches!((call, answer), (Call::Read { .. }, [number::DONE, _, 1, _]));
         Repeated::each(&self.calls).zip(answers).filter(found).count()
+    }
+
+    /// How many bins, going by these answers, list a shape in some tile with tests, and how many without.
+    fn tested(&self, answers: &[Outcome]) -> [usize; 2] {
+        let bin = |call: &Call| matches!(call, Call::Bin { .. } | Call::BinPixels { .. });
+        let bins = Repeated::each(&self.calls).zip(answers).filter(|(call, _)| bin(call));
+        let listed = bins.filter(|(_, [_, tiles, ..])| *tiles > 0);
+        let (with, without): (Vec<_>, Vec<_>) = listed.partition(|(_, [.., tests])| *tests > 0);
+        [with.len(), without.len()]
     }
 
     /// A pool's slot before it is opened: words that say nothing.
@@ -242,6 +251,8 @@ struct Reached {
     whole: usize,
     /// reads that find such an entry
     whole_read: usize,
+    /// bins that list a shape with tests, and without
+    tested: [usize; 2],
 }
 
 #[test]
@@ -257,6 +268,7 @@ fn two_pools_answer_and_hold_as_the_model() {
         reached.shorter += seen.shorter;
         reached.whole += seen.whole;
         reached.whole_read += case.whole_reads(&seen.answers);
+        reached.tested.iter_mut().zip(case.tested(&seen.answers)).for_each(|(reached, bins)| *reached += bins);
         screens.push(case.screen);
         if cut_both_ways(case.screen) {
             cut += 1;
@@ -268,13 +280,14 @@ fn two_pools_answer_and_hold_as_the_model() {
     println!("{cut} sequences are on screens cut on both axes; each of the cut screens comes {rarest} times or more");
     println!("{in_fewer_tiles} shapes on these were listed in fewer tiles than full squares would have it");
     assert_eq!(reached.len(), LAYOUTS.len());
-    for Reached { numbers, run_out, chain, largest, shorter, whole, whole_read } in reached.into_values() {
+    for Reached { numbers, run_out, chain, largest, shorter, whole, whole_read, tested } in reached.into_values() {
         assert!(numbers.keys().copied().eq((0..=11).chain([15])), "each number should be returned");
         assert!(numbers.values().all(|&calls| calls > 500), "and often");
         assert!(run_out > 500, "lists should often run out of room in the middle");
         assert!(chain > 40 && largest > 1, "long chains and largest pools should be there");
         assert!(shorter > 60_000, "lists should often be shorter than they had been");
         assert!(whole > 10_000 && whole_read > 500, "entries with the flag should be common, and be read");
+        assert!(tested.iter().all(|&bins| bins > 5000), "bins with tests and without should be common");
     }
     assert!(cut > 10_000 && rarest > 3, "screens that are cut on both axes should be common");
     assert!(in_fewer_tiles > 5000, "it should often matter that tiles are cut");

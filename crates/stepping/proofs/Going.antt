@@ -25,11 +25,11 @@ use Rattle.walk.proofs.Grid.{tile-rectangle}
 use Rattle.walk.proofs.Lists.{lists-few, words-none, words-then, words-map}
 use Rattle.walk.proofs.Touched.{lists-walked}
 use Rattle.stepping.specs.declared.Step.{Step}
-use Rattle.stepping.specs.Stepping.{OnScreen, Hit, Steps, startRow, startColumn}
-use Rattle.stepping.specs.Row.{HitIn, WholeIn, Named, FromStart, FromAbove}
+use Rattle.stepping.specs.Stepping.{OnScreen, Hit, InRow, Steps, startRow, startColumn}
+use Rattle.stepping.specs.Row.{HitIn, WholeIn, Named, FromAbove}
 use Rattle.stepping.specs.Stepped.{SteppedThrough}
 use Rattle.stepping.proofs.Runs.{find-found}
-use Rattle.stepping.proofs.Points.{start-row<, start-touched}
+use Rattle.stepping.proofs.Points.{start-row<, start-column<, start-touched}
 use Rattle.stepping.proofs.Rows.{columns≤, rows≤, WholeRun, row-tests, row-end≤, one-row-more, steps-whole, steps-below, steps-few, steps-price, none-before, none-after}
 
 -- the rows before a row are walked, in so many tests; the last run is that of the row before it
@@ -62,6 +62,12 @@ module _ (d : Screen) (ok : Allowed d) (e : Edges) (on : OnScreen d (outlined e)
       let b = touching-meets-box (start-touched d ok shape on) in
       c .whole (startRow d shape) (start-row< d ok shape on) (record { from = b .top; to = b .bottom })
 
+  -- and the start column one of those
+  pub start-column-inside : {span : Span} → MeetingColumns d e span → In span (startColumn d shape)
+  start-column-inside c =
+      let b = touching-meets-box (start-touched d ok shape on) in
+      c .whole (startColumn d shape) (start-column< d ok shape on) (record { from = b .left; to = b .right })
+
   -- the words of a run after those of the rows before it
   run-flagged : (row : ℕ) (step : Step) {from count n : ℕ} {Q : ℕ → Type 0} {old mid new : List ℕ} → step .run .end ≤ columns d → WholeIn d shape row (step .run) (step .whole) → from ≤ count
       → Run Q (row * columns d) (step .run .start) (step .run .end) count n (plains mid) (plains new) → Words (Named (row * columns d) (step .run) (step .whole)) count n mid new
@@ -71,33 +77,42 @@ module _ (d : Screen) (ok : Allowed d) (e : Edges) (on : OnScreen d (outlined e)
       let b = r .from≤ in
       words-then le (omega arith) k (words-map (Flagged d shape) (named-flagged d ok shape row within whole) w)
 
-  pub going-from-start : {step : Step} {Q : ℕ → Type 0} {n : ℕ} (old new : List ℕ) → FromStart d shape (startRow d shape) (startColumn d shape) step
+  -- the first row, in which the start tile is the one that is found, and is not counted
+  going-from-start : (step : Step) {tested : List ℕ} {tests n : ℕ} {Q : ℕ → Type 0} (old new : List ℕ) → InRow d shape (startRow d shape) (startColumn d shape) (step .run) tested
+      → tests ≡ length tested → WholeIn d shape (startRow d shape) (step .run) (step .whole)
       → Run Q (startRow d shape * columns d) (step .run .start) (step .run .end) 0 n (plains old) (plains new)
-      → Words (Named (startRow d shape * columns d) (step .run) (step .whole)) 0 n old new → Going d shape (startRow d shape + 1) (step .run) (step .tests) n old new
-  going-from-start {step} {Q} {n} old new f r w =
-      let s = Steps.start (f .row-tests) in
+      → Words (Named (startRow d shape * columns d) (step .run) (step .whole)) 0 n old new → Going d shape (startRow d shape + 1) (step .run) tests n old new
+  going-from-start step {tested} {tests} {n} old new f e whole r w =
+      let s = Steps.start f in
       let l = start-row< d ok shape on in
       record {
         before = startRow d shape;
         next = omega arith;
         within = l;
         listed = _;
-        tested = f .tested;
+        tested = tested;
         steps = s;
-        many = f .many;
+        many = e;
         lists = (
           subst (λ (m : ℕ). Lists (Below m (IsTouched d shape)) n (plains old) (plains new)) (omega arith)
               (one-row-more d ok shape {run = step .run} (steps-whole d ok shape on s) l (none-before d ok shape on (plains old)) r),
-          run-flagged (startRow d shape) step (row-end≤ d ok shape (f .row-tests)) (f .whole) (omega arith) r w (words-none 0 old),
+          run-flagged (startRow d shape) step (row-end≤ d ok shape f) whole (omega arith) r w (words-none 0 old),
         );
       }
 
-  pub going-first : {first column columns′ : ℕ} {step : Step} {Q : ℕ → Type 0} {n : ℕ} (old new : List ℕ) → first ≡ startRow d shape → column ≡ startColumn d shape → columns′ ≡ columns d
-      → FromStart d shape first column step → Run Q (first * columns′) (step .run .start) (step .run .end) 0 n (plains old) (plains new)
-      → Words (Named (first * columns′) (step .run) (step .whole)) 0 n old new → Going d shape (first + 1) (step .run) (step .tests) n old new
-  going-first {first} {column} {columns′} {step} {Q} {n} old new a b c f r w =
-      subst (λ (k : ℕ). Going d shape (k + 1) (step .run) (step .tests) n old new) (sym a)
-      (going-from-start old new (subst (λ (P : Type 0). P) (λ i. FromStart d shape (a i) (b i) step) f)
+  pub going-first : {first column columns′ n : ℕ} {step : Step} {Q : ℕ → Type 0} (old new : List ℕ) → first ≡ startRow d shape → column ≡ startColumn d shape → columns′ ≡ columns d
+      → FromAbove d shape first (record { start = column; end = column + 1 }) step → Run Q (first * columns′) (step .run .start) (step .run .end) 0 n (plains old) (plains new)
+      → Words (Named (first * columns′) (step .run) (step .whole)) 0 n old new → Going d shape (first + 1) (step .run) (step .tests - 1) n old new
+  going-first {first} {column} {columns′} {n} {step} {Q} old new a b c f r w =
+      let x = find-found d shape first (f .find) in
+      let u = x .before in
+      let v = x .from in
+      let y = x .many in
+      let m = f .many in
+      let same : f .found ≡ startColumn d shape = omega arith in
+      subst (λ (k : ℕ). Going d shape (k + 1) (step .run) (step .tests - 1) n old new) (sym a)
+      (going-from-start step old new (subst (λ (P : Type 0). P) (λ i. InRow d shape (a i) (same i) (step .run) (f .beside)) (f .row-tests)) (omega arith)
+      (subst (λ (k : ℕ). WholeIn d shape k (step .run) (step .whole)) a (f .whole))
       (subst (λ (k : ℕ). Run Q k (step .run .start) (step .run .end) 0 n (plains old) (plains new)) (λ i. a i * c i) r)
       (subst (λ (k : ℕ). Words (Named k (step .run) (step .whole)) 0 n old new) (λ i. a i * c i) w))
 

@@ -13,7 +13,6 @@ use Rattle.numbers.proofs.Says.{says-iff, says-and}
 use Rattle.numbers.proofs.Ceil.{lt-or-ge}
 use Rattle.screen.specs.declared.Screen.{Screen}
 use Rattle.screen.specs.declared.Span.{Span}
-use Rattle.screen.specs.Screen.{columns}
 use Rattle.screen.specs.Rectangle.{In}
 use Rattle.screen.proofs.Laws.{near-rises, far-rises}
 use Rattle.touch.specs.declared.Cover as answer
@@ -111,9 +110,9 @@ module _ (P : ℕ → Type 0) {n from to : ℕ} {span : Span} (h : Hull P n from
 -- ---- the whole run
 
 -- of the columns of a row, those between enclosed ones are enclosed
-pub hull-is-enclosed : (d : Screen) (e : RowEdges) {from to : ℕ} {span : Span} → Hull (EnclosedIn d e) (columns d) from to span
-    → (k : ℕ) → from ≤ k → k < to → k < columns d → In span k ↔ EnclosedIn d e k
-hull-is-enclosed d e {from} {to} {span} h k l u k< = (
+pub hull-is-enclosed : (d : Screen) (e : RowEdges) {n from to : ℕ} {span : Span} → Hull (EnclosedIn d e) n from to span
+    → (k : ℕ) → from ≤ k → k < to → k < n → In span k ↔ EnclosedIn d e k
+hull-is-enclosed d e {n} {from} {to} {span} h k l u k< = (
   λ i.
       let a = i .from in
       let b = i .before in

@@ -59,7 +59,7 @@ pub record WholeRun (d : Screen) (shape : Shape) (row : ℕ) (run : Span) : Type
   pub only : (k : ℕ) → k < columns d → Hit d shape row k → In run k
 
 module _ (d : Screen) (ok : Allowed d) (shape : Shape) where
-  module _ (row start : ℕ) (start< : start < columns d) (h : Hit d shape row start) {run : Span} (r : Reach (Hit d shape row) (columns d) (suc start) (run .end)) (l : Back (Hit d shape row) start (run .start)) where
+  module _ (row start : ℕ) (start< : start < columns d) (h : Hit d shape row start) {run : Span} (r : Reach (Hit d shape row) (columns d) (suc start) (run .end)) (l : Back (Hit d shape row) 0 start (run .start)) where
     inside : (k : ℕ) → run .start ≤ k → k < run .end → (k < start) ⊎ (start ≤ k) → (start < k) ⊎ (k ≤ start) → Hit d shape row k
     inside k u v =
         ⊎-elim (λ (w : k < start) x. l .all k u w)
@@ -71,7 +71,7 @@ module _ (d : Screen) (ok : Allowed d) (shape : Shape) where
         (λ (u : k < run .start).
         let to = l .to in
         let m : ℕ = run .start - 1 in
-        absurd (l .ends m (omega arith) (row-of-tiles-has-no-gap d ok shape row {c₁ = k} {c₂ = m} {c₃ = start} (omega arith) (omega arith) start< t h)))
+        absurd (l .ends m (omega arith) (omega arith) (row-of-tiles-has-no-gap d ok shape row {c₁ = k} {c₂ = m} {c₃ = start} (omega arith) (omega arith) start< t h)))
         (λ (u : run .start ≤ k). u)
 
     to-end : (k : ℕ) → k < columns d → Hit d shape row k → (k < run .end) ⊎ (run .end ≤ k) → k < run .end

@@ -29,24 +29,6 @@ back-stop P {first} {before} e f k d p = f (subst P (omega arith) p)
 pub run-to : {P : ℕ → Type 0} {base from stop stop′ count n : ℕ} {old new : List ℕ} → stop ≡ stop′ → Run P base from stop count n old new → Run P base from stop′ count n old new
 run-to {P} {base} {from} {stop} {stop′} {count} {n} {old} {new} e r = subst (λ (m : ℕ). Run P base from m count n old new) e r
 
--- what reaches with P reaches with what P is by another name
-pub reach-iff : (P Q : ℕ → Type 0) {n column stop : ℕ} → ((k : ℕ) → k < n → P k → Q k) → ((k : ℕ) → k < n → Q k → P k) → Reach P n column stop → Reach Q n column stop
-reach-iff P Q {n} {column} {stop} f g r =
-    record {
-      from = r .from;
-      within = r .within;
-      all = λ k l h. f k (let w = r .within in omega arith) (r .all k l h);
-      ends = λ l q. r .ends l (g stop l q);
-    }
-
-pub back-iff : (P Q : ℕ → Type 0) {n column first : ℕ} → column ≤ n → ((k : ℕ) → k < n → P k → Q k) → ((k : ℕ) → k < n → Q k → P k) → Back P column first → Back Q column first
-back-iff P Q {n} {column} {first} c≤ f g b =
-    record {
-      to = b .to;
-      all = λ k l h. f k (omega arith) (b .all k l h);
-      ends = λ k e q. b .ends k e (g k (let t = b .to in omega arith) q);
-    }
-
 module _ (d : Screen) (shape : Shape) (row : ℕ) where
   -- ---- from what is found to the tests
 
@@ -85,19 +67,19 @@ module _ (d : Screen) (shape : Shape) (row : ℕ) where
     pub to-miss : 0 < first → length tested + first ≡ column + 1
     pub to-edge : first ≡ 0 → length tested + first ≡ column
 
-  rests : (first : ℕ) → Back (Hit d shape row) first first → LeftTests first first
+  rests : (first : ℕ) → Back (Hit d shape row) 0 first first → LeftTests first first
   rests zero b = record { tested = []; left = Left.edge; to-miss = λ l. absurd (omega arith); to-edge = λ l. omega arith }
   rests (suc k) b =
-      record { tested = tileAt d k row ∷ []; left = Left.miss (b .ends k refl); to-miss = λ l. omega arith; to-edge = λ l. absurd (omega arith) }
+      record { tested = tileAt d k row ∷ []; left = Left.miss (b .ends k refl (omega arith)); to-miss = λ l. omega arith; to-edge = λ l. absurd (omega arith) }
 
-  pub left-tests : (n : ℕ) {column first : ℕ} → first + n ≡ column → Back (Hit d shape row) column first → LeftTests column first
+  pub left-tests : (n : ℕ) {column first : ℕ} → first + n ≡ column → Back (Hit d shape row) 0 column first → LeftTests column first
   left-tests zero {column} {first} e b =
       let e′ : first ≡ column = omega arith in
-      subst (λ (m : ℕ). LeftTests m first) e′ (rests first (subst (λ (m : ℕ). Back (Hit d shape row) m first) (sym e′) b))
+      subst (λ (m : ℕ). LeftTests m first) e′ (rests first (subst (λ (m : ℕ). Back (Hit d shape row) 0 m first) (sym e′) b))
   left-tests (suc n) {column} {first} e b =
       let c : ℕ = first + n in
       let e′ : suc c ≡ column = omega arith in
-      let t = left-tests n {column = c} {first = first} refl (record { to = omega arith; all = λ k l h. b .all k l (omega arith); ends = b .ends }) in
+      let t = left-tests n {column = c} {first = first} refl (record { within = omega arith; to = omega arith; all = λ k l h. b .all k l (omega arith); ends = b .ends }) in
       subst (λ (m : ℕ). LeftTests m first) e′
       (record {
         tested = tileAt d c row ∷ t .tested;
@@ -139,16 +121,16 @@ module _ (d : Screen) (shape : Shape) (row : ℕ) where
       let m = w .1 in
       (record { from = omega arith; within = r .within; all = down-to (omega arith) (r .all) h; ends = r .ends }, omega arith)
 
-  pub left-back : {column first : ℕ} {ts : List ℕ} → Left d shape row column first ts → Back (Hit d shape row) column first × (length ts + first ≤ column + 1)
-  left-back Left.edge = (record { to = omega arith; all = λ k l h. absurd (omega arith); ends = λ k e. absurd (omega arith) }, omega arith)
+  pub left-back : {column first : ℕ} {ts : List ℕ} → Left d shape row column first ts → Back (Hit d shape row) 0 column first × (length ts + first ≤ column + 1)
+  left-back Left.edge = (record { within = omega arith; to = omega arith; all = λ k l h. absurd (omega arith); ends = λ k e l. absurd (omega arith) }, omega arith)
   left-back (Left.miss {c} f) =
-      (record { to = omega arith; all = λ k l h. absurd (omega arith); ends = λ k e. back-stop (Hit d shape row) {first = suc c} {before = c} (omega arith) f k e }, omega arith)
+      (record { within = omega arith; to = omega arith; all = λ k l h. absurd (omega arith); ends = λ k e l. back-stop (Hit d shape row) {first = suc c} {before = c} (omega arith) f k e }, omega arith)
   left-back (Left.hit {c} {first} h t) =
       let w = left-back t in
       let b = w .0 in
       let u = b .to in
       let m = w .1 in
-      (record { to = omega arith; all = λ k l v. up-to (b .all) h k l (omega arith); ends = b .ends }, omega arith)
+      (record { within = omega arith; to = omega arith; all = λ k l v. up-to (b .all) h k l (omega arith); ends = b .ends }, omega arith)
 
   pub record Found (end column found : ℕ) (ts : List ℕ) : Type 0 where
     pub before : found < end

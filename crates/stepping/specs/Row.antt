@@ -11,22 +11,9 @@ use Rattle.screen.specs.declared.Span.{Span}
 use Rattle.screen.specs.Rectangle.{rectangleAt, In}
 use Rattle.shape.specs.declared.Shape.{Shape}
 use Rattle.touch.specs.declared.Cover as answer
-use Rattle.touch.specs.declared.RowEdges.{RowEdges}
-use Rattle.touch.specs.Cover.{Wholly, isTouched, isWhole}
-use Rattle.walk.specs.Row.{ClearIn, EnclosedIn}
+use Rattle.touch.specs.Cover.{Wholly}
 use Rattle.stepping.specs.declared.Step.{Step}
 use Rattle.stepping.specs.Stepping.{Hit, Find, InRow}
-
--- ---- a test
-
--- the test by box and by corner, in a row that meets the bounding box: the column is of those that meet it, and no edge separates
-abbrev pub Passes : Screen → RowEdges → Span → ℕ → Type 0
-Passes d e span column = In span column × ClearIn d e column
-
--- what an answer tells of it: whether the tile is touched, and where it is, whether it is enclosed
-pub record CoverTold (r : answer.Cover) (d : Screen) (e : RowEdges) (span : Span) (column : ℕ) : Type 0 where
-  pub touched : Says (isTouched r) (Passes d e span column)
-  pub whole : Passes d e span column → Says (isWhole r) (EnclosedIn d e column)
 
 -- ---- the tests to one side
 
@@ -37,11 +24,12 @@ pub record Reach (P : ℕ → Type 0) (n column stop : ℕ) : Type 0 where
   pub all : (k : ℕ) → column ≤ k → k < stop → P k
   pub ends : stop < n → P stop → ⊥
 
--- P holds from first on and before a column, and does not hold of the one before first
-pub record Back (P : ℕ → Type 0) (column first : ℕ) : Type 0 where
+-- P holds from first on and before a column, and first is n or P does not hold of the one before it
+pub record Back (P : ℕ → Type 0) (n column first : ℕ) : Type 0 where
+  pub within : n ≤ first
   pub to : first ≤ column
   pub all : (k : ℕ) → first ≤ k → k < column → P k
-  pub ends : (k : ℕ) → suc k ≡ first → P k → ⊥
+  pub ends : (k : ℕ) → suc k ≡ first → n ≤ k → P k → ⊥
 
 -- ---- the wholly covered tiles of a run
 
@@ -79,13 +67,6 @@ pub record HitIn (d : Screen) (shape : Shape) (row : ℕ) (run : Span) : Type 0 
   pub column : ℕ
   pub inside : In run column
   pub hit : Hit d shape row column
-
--- the row from its start tile, and how many tests that takes
-pub record FromStart (d : Screen) (shape : Shape) (row start : ℕ) (step : Step) : Type 0 where
-  pub tested : List ℕ
-  pub row-tests : InRow d shape row start (step .run) tested
-  pub many : step .tests ≡ length tested
-  pub whole : WholeIn d shape row (step .run) (step .whole)
 
 -- the row from the run above it, and how many tests that takes
 pub record FromAbove (d : Screen) (shape : Shape) (row : ℕ) (above : Span) (step : Step) : Type 0 where

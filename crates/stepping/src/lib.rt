@@ -10,9 +10,9 @@ ghost use Rattle.screen.specs.Screen.{Allowed, columns, rows};
 ghost use Rattle.shape.specs.Shape.{InRange};
 ghost use Rattle.touch.specs.Edges.{Outline, RowEdgesRange};
 ghost use Rattle.walk.specs.Lists.{Words};
-ghost use Rattle.walk.specs.Row.{EnclosedIn, Run, InTheRow, outlined, MeetingColumns, MeetingRows, MeetsRow};
+ghost use Rattle.walk.specs.Row.{ClearIn, EnclosedIn, Run, outlined, MeetingColumns, MeetingRows, MeetsRow};
 ghost use Rattle.stepping.specs.Stepping.{OnAxis, OnGlass, OnScreen, upper, topmost, startColumn, startRow};
-ghost use Rattle.stepping.specs.Row.{Passes, CoverTold, Reach, Back, Hull, joined, grown, HitIn, FromStart, FromAbove, Named};
+ghost use Rattle.stepping.specs.Row.{Reach, Back, Hull, joined, grown, HitIn, FromAbove, Named};
 ghost use Rattle.stepping.specs.Stepped.{SteppedThrough, WalkedThrough};
 use numbers::flagged;
 use numbers::wide;
@@ -24,7 +24,6 @@ use touch::Cover;
 use touch::Edges;
 use touch::RowEdges;
 use touch::Three;
-use walk::Start;
 
 // How many tiles are listed, and how many tests were made.
 pub struct Stepped {
@@ -100,20 +99,6 @@ fn topmost_of(vertices: Three) -> Vertex
     upper_of(vertices.a, upper_of(vertices.b, vertices.c))
 }
 
-// What a test of the tile in a column answers, in a row that meets the bounding box: no tile outside the columns of the box is touched.
-fn test(screen: Screen, edges: RowEdges, span: Span, column: u32) -> Cover
-    requires { ⌜ (Allowed screen) × (RowEdgesRange edges) × (column < columns screen) ⌝ }
-    ensures { λ r. ⌜ CoverTold r screen edges span column ⌝ }
-{
-    if column < span.start {
-        return Cover::Apart;
-    }
-    if span.end <= column {
-        return Cover::Apart;
-    }
-    walk::cover_in(screen, edges, column)
-}
-
 // The least span that has the columns of a span and one column more.
 fn join(span: Span, column: u32) -> Span
     requires { ⌜ column ≤ 4096 ⌝ }
@@ -144,17 +129,16 @@ fn grown(whole: Span, column: u32, cover: Cover) -> Span
     }
 }
 
-// To the right from a column: the first that is missed, or one past the last.
-fn right_from(screen: Screen, edges: RowEdges, span: Span, column: u32, whole: Span) -> Side
-    requires { ⌜ (Allowed screen) × (RowEdgesRange edges) × (column ≤ columns screen) ⌝ }
-    ensures reach { λ r. ⌜ Reach (Passes screen edges span) (columns screen) column (r .end) ⌝ }
-    ensures whole { λ r. ⌜ ((from : ℕ) → Hull (EnclosedIn screen edges) (columns screen) from column whole → Hull (EnclosedIn screen edges) (columns screen) from (r .end) (r .whole)) ⌝ }
+// To the right from a column and before `high`: the first that is missed, or `high`.
+fn right_from(screen: Screen, edges: RowEdges, high: u32, column: u32, whole: Span) -> Side
+    requires { ⌜ (Allowed screen) × (RowEdgesRange edges) × (high ≤ columns screen) × (column ≤ high) ⌝ }
+    ensures reach { λ r. ⌜ Reach (ClearIn screen edges) high column (r .end) ⌝ }
+    ensures whole { λ r. ⌜ ((n from : ℕ) → Hull (EnclosedIn screen edges) n from column whole → Hull (EnclosedIn screen edges) n from (r .end) (r .whole)) ⌝ }
 {
-    let columns = screen::columns_of(screen);
     let mut end = column;
     let mut found = whole;
-    while end < columns {
-        let cover = test(screen, edges, span, end);
+    while end < high {
+        let cover = walk::cover_in(screen, edges, end);
         if !touch::is_touched(cover) {
             return Side { end, whole: found };
         }
@@ -164,17 +148,17 @@ fn right_from(screen: Screen, edges: RowEdges, span: Span, column: u32, whole: S
     Side { end, whole: found }
 }
 
-// To the left from the column before a column: one past the first that is missed, or the first of all.
-fn left_from(screen: Screen, edges: RowEdges, span: Span, column: u32, whole: Span) -> Side
-    requires { ⌜ (Allowed screen) × (RowEdgesRange edges) × (column ≤ columns screen) ⌝ }
-    ensures back { λ r. ⌜ Back (Passes screen edges span) column (r .end) ⌝ }
-    ensures whole { λ r. ⌜ ((to : ℕ) → Hull (EnclosedIn screen edges) (columns screen) column to whole → Hull (EnclosedIn screen edges) (columns screen) (r .end) to (r .whole)) ⌝ }
+// To the left from the column before a column, and not past `low`: one past the first that is missed, or `low`.
+fn left_from(screen: Screen, edges: RowEdges, low: u32, column: u32, whole: Span) -> Side
+    requires { ⌜ (Allowed screen) × (RowEdgesRange edges) × (column ≤ columns screen) × (low ≤ column) ⌝ }
+    ensures back { λ r. ⌜ Back (ClearIn screen edges) low column (r .end) ⌝ }
+    ensures whole { λ r. ⌜ ((n to : ℕ) → Hull (EnclosedIn screen edges) n column to whole → Hull (EnclosedIn screen edges) n (r .end) to (r .whole)) ⌝ }
 {
     let mut end = column;
     let mut found = whole;
-    while 0 < end {
+    while low < end {
         let before = end - 1;
-        let cover = test(screen, edges, span, before);
+        let cover = walk::cover_in(screen, edges, before);
         if !touch::is_touched(cover) {
             return Side { end, whole: found };
         }
@@ -184,75 +168,50 @@ fn left_from(screen: Screen, edges: RowEdges, span: Span, column: u32, whole: Sp
     Side { end, whole: found }
 }
 
-// The run of a row from its start tile. A test is made for each other tile of the run and for each miss beside it.
-fn from_start(
-    screen: Screen,
-    edges: Edges,
-    in_row: RowEdges,
-    row: u32,
-    span: Span,
-    start: Start,
-) -> Step
-    requires { ⌜ (Allowed screen) × (Outline edges) × (MeetingColumns screen edges span) ⌝ }
-    requires { ⌜ (row < rows screen) × (MeetsRow screen edges row) × (start .column < columns screen) ⌝ }
-    requires { ⌜ (InTheRow screen edges row in_row) × (Says (start .whole) (EnclosedIn screen in_row (start .column))) ⌝ }
-    ensures { λ r. ⌜ FromStart screen (outlined edges) row (start .column) r ⌝ }
-{
-    let column = start.column;
-    let columns = screen::columns_of(screen);
-    let known = if start.whole {
-        Span {
-            start: column,
-            end: column + 1,
-        }
-    } else {
-        Span {
-            start: columns,
-            end: 0,
-        }
-    };
-    let right = right_from(screen, in_row, span, column + 1, known);
-    let end = right.end;
-    let left = left_from(screen, in_row, span, column, right.whole);
-    let first = left.end;
-    let whole = left.whole;
-    let missed_right = if end < columns { 1 } else { 0 };
-    let missed_left = if 0 < first { 1 } else { 0 };
-    Step {
-        run: Span { start: first, end },
-        whole,
-        tests: (end - first - 1) + missed_right + missed_left,
-    }
-}
-
-// The run of the row in which the walk starts. Whether its start tile is wholly covered is found beside the tests.
-fn first_row(screen: Screen, edges: Edges, row: u32, span: Span, column: u32) -> Step
-    requires { ⌜ (Allowed screen) × (Outline edges) × (MeetingColumns screen edges span) ⌝ }
-    requires { ⌜ (row < rows screen) × (MeetsRow screen edges row) × (column < columns screen) ⌝ }
-    ensures { λ r. ⌜ FromStart screen (outlined edges) row column r ⌝ }
-{
-    let in_row = walk::edges_in_row(screen, edges, row);
-    let cover = walk::cover_in(screen, in_row, column);
-    let whole = touch::is_whole(cover);
-    from_start(screen, edges, in_row, row, span, Start { column, whole })
-}
-
-// The run of a row that starts with the first touched tile below the run above.
-fn next_row(screen: Screen, edges: Edges, row: u32, span: Span, above: Span) -> Step
+// The run of a row that starts with the first touched tile below the run above. A test is made for each tile below that run up to this one, for each other tile
+// of the row's run and for each miss beside it. No tile outside the columns of the bounding box is touched, so that these misses are known; and so is the one to
+// the left of a tile that was not the first to be tested.
+fn step_row(screen: Screen, edges: Edges, row: u32, span: Span, above: Span) -> Step
     requires { ⌜ (Allowed screen) × (Outline edges) × (MeetingColumns screen edges span) ⌝ }
     requires { ⌜ (row < rows screen) × (MeetsRow screen edges row) × (span .start ≤ above .start) × (above .end ≤ span .end) ⌝ }
     requires { ⌜ HitIn screen (outlined edges) row above ⌝ }
     ensures { λ r. ⌜ FromAbove screen (outlined edges) row above r ⌝ }
 {
     let in_row = walk::edges_in_row(screen, edges, row);
-    let found = walk::first_touched(screen, in_row, above);
-    let step = from_start(screen, edges, in_row, row, span, found);
-    let run = step.run;
-    let whole = step.whole;
+    let first = walk::first_touched(screen, in_row, above);
+    let column = first.column;
+    let high = span.end;
+    let known = if first.whole {
+        Span {
+            start: column,
+            end: column + 1,
+        }
+    } else {
+        Span {
+            start: high,
+            end: 0,
+        }
+    };
+    let right = right_from(screen, in_row, high, column + 1, known);
+    let end = right.end;
+    let low = if above.start < column {
+        column
+    } else {
+        span.start
+    };
+    let left = left_from(screen, in_row, low, column, right.whole);
+    let start = left.end;
+    let whole = left.whole;
+    let missed_right = if end < screen::columns_of(screen) {
+        1
+    } else {
+        0
+    };
+    let missed_left = if 0 < start { 1 } else { 0 };
     Step {
-        run,
+        run: Span { start, end },
         whole,
-        tests: (found.column - above.start + 1) + step.tests,
+        tests: (column - above.start) + (end - start) + missed_right + missed_left,
     }
 }
 
@@ -276,7 +235,8 @@ fn append(base: u32, run: Span, whole: Span, list: &mut [u32], count: u32) -> u3
     n
 }
 
-// The walk from its start tile, in column `column` of row `first`, and before the end of the rows that meet the bounding box.
+// The walk from its start tile, in column `column` of row `first`, and before the end of the rows that meet the bounding box. The start tile is looked at for its
+// flag, and is not counted.
 fn step_rows(
     screen: Screen,
     edges: Edges,
@@ -293,13 +253,22 @@ fn step_rows(
 {
     let columns = screen::columns_of(screen);
     let end = rows.end;
-    let step = first_row(screen, edges, first, span, column);
-    let mut tests = step.tests;
+    let step = step_row(
+        screen,
+        edges,
+        first,
+        span,
+        Span {
+            start: column,
+            end: column + 1,
+        },
+    );
+    let mut tests = step.tests - 1;
     let mut run = step.run;
     let mut count = append(first * columns, run, step.whole, list, 0);
     let mut row = first + 1;
     while row < end {
-        let next = next_row(screen, edges, row, span, run);
+        let next = step_row(screen, edges, row, span, run);
         tests += next.tests;
         run = next.run;
         count = append(row * columns, run, next.whole, list, count);

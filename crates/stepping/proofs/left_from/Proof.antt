@@ -5,9 +5,9 @@ use mathlib.Core.Path.{sym, subst, _∙_}
 use native.Mathlib.Omega.{arith}
 use borrow.Author.Tests.{not-true, not-false}
 use Rattle.screen.specs.declared.Span.{Span}
-use Rattle.screen.specs.Screen.{columns}
-use Rattle.walk.specs.Row.{EnclosedIn}
-use Rattle.stepping.specs.Row.{Passes, Hull}
+use Rattle.touch.proofs.Covering.{cover-says-clear, cover-says-enclosed}
+use Rattle.walk.specs.Row.{ClearIn, EnclosedIn}
+use Rattle.stepping.specs.Row.{Hull}
 use Rattle.stepping.proofs.Hulls.{hull-left}
 use Rattle.stepping.proofs.Rows.{columns≤}
 use Rattle.stepping.proofs.Runs.{down-to, back-stop}
@@ -16,21 +16,21 @@ use Rattle.stepping.proofs.left_from.Statement.{statement}
 use Rattle.stepping.proofs.left_from.Tie as tie
 
 abbrev Inv-loop : tie.InvT-loop
-Inv-loop screen edges span column end₀ found₀ end found =
-    (end ≤ column) × ((k : ℕ) → end ≤ k → k < column → Passes screen edges span k)
-    × ((to : ℕ) → Hull (EnclosedIn screen edges) (columns screen) column to found₀ → Hull (EnclosedIn screen edges) (columns screen) end to found)
+Inv-loop screen edges low column end₀ found₀ end found =
+    (low ≤ end) × (end ≤ column) × ((k : ℕ) → end ≤ k → k < column → ClearIn screen edges k)
+    × ((n to : ℕ) → Hull (EnclosedIn screen edges) n column to found₀ → Hull (EnclosedIn screen edges) n end to found)
 
 abbrev μ-loop : tie.MeasureT-loop
-μ-loop screen edges span column end₀ found₀ end found = end
+μ-loop screen edges low column end₀ found₀ end found = end
 
 loop-holds : tie.Need-loop-holds Inv-loop μ-loop
-loop-holds c = (omega arith, (λ k l h. absurd (omega arith)), λ to h. h)
+loop-holds c = (search needs, omega arith, (λ k l h. absurd (omega arith)), λ n to h. h)
 
 sub-before : tie.Need-sub-before Inv-loop μ-loop
 sub-before c = search needs
 
-test-requires : tie.Need-test-requires Inv-loop μ-loop
-test-requires c κs = search needs
+cover-in-requires : tie.Need-cover-in-requires Inv-loop μ-loop
+cover-in-requires c κs = search needs
 
 is-touched-requires : tie.Need-is-touched-requires Inv-loop μ-loop
 is-touched-requires c κs = search needs
@@ -39,13 +39,15 @@ returns : tie.Need-returns Inv-loop μ-loop
 returns c =
     let l = c .before .before .before .before .loop in
     let s = c .before .before .before .before .before .args in
+    let cover = c .before .before .cover-in in
     let missed = sym (c .before .is-touched .ensures) ∙ not-true _ (c .if1 .taken) in (
       record {
-        to = l .inv .0;
-        all = l .inv .1;
-        ends = back-stop (Passes (s .screen) (s .edges) (s .span)) (omega arith) (c .before .before .test .ensures .touched .no missed);
+        within = l .inv .0;
+        to = l .inv .1;
+        all = l .inv .2;
+        ends = λ k e h. back-stop (ClearIn (s .screen) (s .edges)) (omega arith) (cover-says-clear (cover .result) (cover .ensures) .no missed) k e;
       },
-      l .inv .2,
+      l .inv .3,
     )
 
 grown-requires : tie.Need-grown-requires Inv-loop μ-loop
@@ -58,18 +60,21 @@ loop-again : tie.Need-loop-again Inv-loop μ-loop
 loop-again c =
     let l = c .before .before .before .before .before .loop in
     let s = c .before .before .before .before .before .before .args in
-    let told = c .before .before .before .test in
-    let passes = told .ensures .touched .yes (sym (c .before .before .is-touched .ensures) ∙ not-false _ (c .before .if1 .left)) in
+    let cover = c .before .before .before .cover-in in
     let P = EnclosedIn (s .screen) (s .edges) in (
       search needs,
-      down-to (omega arith) (l .inv .1) passes,
-      λ to h.
-          subst (λ (r : Span). Hull P (columns (s .screen)) (l .end - 1) to r) (sym (c .grown .ensures))
-          (hull-left P (l .inv .2 to h) (told .result) (omega arith) (told .ensures .whole passes)),
+      search needs,
+      down-to (omega arith) (l .inv .2)
+          (cover-says-clear (cover .result) (cover .ensures) .yes (sym (c .before .before .is-touched .ensures) ∙ not-false _ (c .before .if1 .left))),
+      λ n to h.
+          subst (λ (r : Span). Hull P n (l .end - 1) to r) (sym (c .grown .ensures))
+          (hull-left P (l .inv .3 n to h) (cover .result) (omega arith) (cover-says-enclosed (cover .result) (cover .ensures))),
     )
 
 returns-2 : tie.Need-returns-2 Inv-loop μ-loop
-returns-2 c = let l = c .before .loop in (record { to = l .inv .0; all = l .inv .1; ends = λ k e p. absurd (omega arith) }, l .inv .2)
+returns-2 c =
+    let l = c .before .loop in
+    (record { within = l .inv .0; to = l .inv .1; all = l .inv .2; ends = λ k e h p. absurd (omega arith) }, l .inv .3)
 
 pub left-from-spec : {M : Type 1} → statement M
 left-from-spec =
@@ -79,7 +84,7 @@ left-from-spec =
     μ-loop
     loop-holds
     sub-before
-    test-requires
+    cover-in-requires
     is-touched-requires
     returns
     grown-requires

@@ -1,6 +1,6 @@
 -- The walk while it goes on: after each row the steps so far are those of the definition, and the touched tiles of the rows so far are listed.
 use Prim.Native.Nat.{ℕ, suc, _+_, _*_, _-_, _≤_, _<_}
-use mathlib.Core.Path.{_≡_, sym, ap, subst, _∙_}
+use mathlib.Core.Path.{_≡_, refl, sym, ap, subst, _∙_}
 use mathlib.Core.List.{List, _++_}
 use native.Mathlib.Omega.{arith}
 use lib.ListN.{length, length-append}
@@ -32,7 +32,7 @@ use Rattle.stepping.proofs.Runs.{find-found}
 use Rattle.stepping.proofs.Points.{start-row<, start-column<, start-touched}
 use Rattle.stepping.proofs.Rows.{columns≤, rows≤, WholeRun, row-tests, row-end≤, one-row-more, steps-whole, steps-below, steps-few, steps-price, none-before, none-after}
 
--- the rows before a row are walked, in so many tests; the last run is that of the row before it
+-- the rows before a row are walked, in so many tests with that of the start tile; the last run is that of the row before it
 pub record Going (d : Screen) (shape : Shape) (row : ℕ) (run : Span) (tests count : ℕ) (old new : List ℕ) : Type 0 where
   pub before : ℕ
   pub next : row ≡ suc before
@@ -40,7 +40,7 @@ pub record Going (d : Screen) (shape : Shape) (row : ℕ) (run : Span) (tests co
   pub listed : List ℕ
   pub tested : List ℕ
   pub steps : Steps d shape before run listed tested
-  pub many : tests ≡ length tested
+  pub many : tests ≡ length tested + 1
   pub lists : Before d shape row count old new
 
 -- the flags of a run's words say which of its tiles are wholly covered
@@ -63,7 +63,7 @@ module _ (d : Screen) (ok : Allowed d) (e : Edges) (on : OnScreen d (outlined e)
       c .whole (startRow d shape) (start-row< d ok shape on) (record { from = b .top; to = b .bottom })
 
   -- and the start column one of those
-  pub start-column-inside : {span : Span} → MeetingColumns d e span → In span (startColumn d shape)
+  start-column-inside : {span : Span} → MeetingColumns d e span → In span (startColumn d shape)
   start-column-inside c =
       let b = touching-meets-box (start-touched d ok shape on) in
       c .whole (startColumn d shape) (start-column< d ok shape on) (record { from = b .left; to = b .right })
@@ -79,7 +79,7 @@ module _ (d : Screen) (ok : Allowed d) (e : Edges) (on : OnScreen d (outlined e)
 
   -- the first row, in which the start tile is the one that is found, and is not counted
   going-from-start : (step : Step) {tested : List ℕ} {tests n : ℕ} {Q : ℕ → Type 0} (old new : List ℕ) → InRow d shape (startRow d shape) (startColumn d shape) (step .run) tested
-      → tests ≡ length tested → WholeIn d shape (startRow d shape) (step .run) (step .whole)
+      → tests ≡ length tested + 1 → WholeIn d shape (startRow d shape) (step .run) (step .whole)
       → Run Q (startRow d shape * columns d) (step .run .start) (step .run .end) 0 n (plains old) (plains new)
       → Words (Named (startRow d shape * columns d) (step .run) (step .whole)) 0 n old new → Going d shape (startRow d shape + 1) (step .run) tests n old new
   going-from-start step {tested} {tests} {n} old new f e whole r w =
@@ -100,9 +100,9 @@ module _ (d : Screen) (ok : Allowed d) (e : Edges) (on : OnScreen d (outlined e)
         );
       }
 
-  pub going-first : {first column columns′ n : ℕ} {step : Step} {Q : ℕ → Type 0} (old new : List ℕ) → first ≡ startRow d shape → column ≡ startColumn d shape → columns′ ≡ columns d
+  going-first : {first column columns′ n : ℕ} {step : Step} {Q : ℕ → Type 0} (old new : List ℕ) → first ≡ startRow d shape → column ≡ startColumn d shape → columns′ ≡ columns d
       → FromAbove d shape first (record { start = column; end = column + 1 }) step → Run Q (first * columns′) (step .run .start) (step .run .end) 0 n (plains old) (plains new)
-      → Words (Named (first * columns′) (step .run) (step .whole)) 0 n old new → Going d shape (first + 1) (step .run) (step .tests - 1) n old new
+      → Words (Named (first * columns′) (step .run) (step .whole)) 0 n old new → Going d shape (first + 1) (step .run) (step .tests) n old new
   going-first {first} {column} {columns′} {n} {step} {Q} old new a b c f r w =
       let x = find-found d shape first (f .find) in
       let u = x .before in
@@ -110,7 +110,7 @@ module _ (d : Screen) (ok : Allowed d) (e : Edges) (on : OnScreen d (outlined e)
       let y = x .many in
       let m = f .many in
       let same : f .found ≡ startColumn d shape = omega arith in
-      subst (λ (k : ℕ). Going d shape (k + 1) (step .run) (step .tests - 1) n old new) (sym a)
+      subst (λ (k : ℕ). Going d shape (k + 1) (step .run) (step .tests) n old new) (sym a)
       (going-from-start step old new (subst (λ (P : Type 0). P) (λ i. InRow d shape (a i) (same i) (step .run) (f .beside)) (f .row-tests)) (omega arith)
       (subst (λ (k : ℕ). WholeIn d shape k (step .run) (step .whole)) a (f .whole))
       (subst (λ (k : ℕ). Run Q k (step .run .start) (step .run .end) 0 n (plains old) (plains new)) (λ i. a i * c i) r)
@@ -132,7 +132,7 @@ module _ (d : Screen) (ok : Allowed d) (e : Edges) (on : OnScreen d (outlined e)
     whole : WholeRun d shape (g .before) run
     whole = steps-whole d ok shape on (g .steps)
 
-    pub going-on : {columns′ : ℕ} {step : Step} {Q : ℕ → Type 0} {n : ℕ} (new : List ℕ) → columns′ ≡ columns d → row < rows d → FromAbove d shape row run step
+    going-on : {columns′ : ℕ} {step : Step} {Q : ℕ → Type 0} {n : ℕ} (new : List ℕ) → columns′ ≡ columns d → row < rows d → FromAbove d shape row run step
         → Run Q (row * columns′) (step .run .start) (step .run .end) count n (plains mid) (plains new)
         → Words (Named (row * columns′) (step .run) (step .whole)) count n mid new → Going d shape (row + 1) (step .run) (tests + step .tests) n old new
     going-on {columns′} {step} {Q} {n} new e row< f r′ w′ =
@@ -162,7 +162,7 @@ module _ (d : Screen) (ok : Allowed d) (e : Edges) (on : OnScreen d (outlined e)
         }
 
     -- few enough tests to count
-    pub going-few : tests ≤ 12288
+    going-few : tests ≤ 12289
     going-few =
         let p = steps-price d ok shape on (g .steps) in
         let f = steps-few d ok shape on (g .steps) (g .within) in
@@ -174,14 +174,14 @@ module _ (d : Screen) (ok : Allowed d) (e : Edges) (on : OnScreen d (outlined e)
         let c = rows≤ d ok in
         omega arith
 
-    pub going-count : count ≤ row * columns d
+    going-count : count ≤ row * columns d
     going-count = lists-few count (g .lists .0) (λ t p. p .0)
 
-    pub going-start≤ : startRow d shape < row
+    going-start≤ : startRow d shape < row
     going-start≤ = let p = steps-price d ok shape on (g .steps) .rows≥ in let n = g .next in omega arith
 
     -- the run stands in the columns that meet the box
-    pub going-inside : {span : Span} → MeetingColumns d e span → (span .start ≤ run .start) × (run .end ≤ span .end)
+    going-inside : {span : Span} → MeetingColumns d e span → (span .start ≤ run .start) × (run .end ≤ span .end)
     going-inside {span} c =
         let some = whole .some in
         let within = whole .within in
@@ -195,14 +195,14 @@ module _ (d : Screen) (ok : Allowed d) (e : Edges) (on : OnScreen d (outlined e)
         inside c k k< h = let b = touching-meets-box h in c .whole k k< (record { from = b .left; to = b .right })
 
     -- below it there is a touched tile
-    pub going-below : row < rows d → MeetsRow d e row → HitIn d shape row run
+    going-below : row < rows d → MeetsRow d e row → HitIn d shape row run
     going-below row< m =
         let n : g .before + 1 ≡ row = let x = g .next in omega arith in
         subst (λ (k : ℕ). HitIn d shape k run) n
         (steps-below d ok shape on (g .steps) (omega arith) (subst (λ (k : ℕ). near (d .height) (d .s) k ≤ℤ bounds (three shape) .bottom) (sym n) (m .from)))
 
     -- after the last row of the box the walk is whole
-    pub going-ends : (span : Span) → MeetingRows d e span → row ≡ span .end → tiles d ≤ length old → SteppedThrough d shape (record { count = count; tests = tests }) old mid
+    going-ends : (span : Span) → MeetingRows d e span → row ≡ span .end → tiles d ≤ length old → SteppedThrough d shape (record { count = count; tests = tests - 1 }) old mid
     going-ends span c end room =
         let n = g .next in
         let q : row * columns d ≡ suc (g .before) * columns d = ap (λ (k : ℕ). k * columns d) (g .next) in
@@ -232,5 +232,78 @@ module _ (d : Screen) (ok : Allowed d) (e : Edges) (on : OnScreen d (outlined e)
                 run = run;
                 steps = g .steps;
               };
-          tests = g .many;
+          tests = let m = g .many in omega arith;
         }
+
+-- ---- the walk from its start tile
+
+-- before a row: nothing is walked yet, and what counts as the run above is the start tile; or the rows before it are walked
+pub data Walking (d : Screen) (shape : Shape) (row : ℕ) (run : Span) (tests count : ℕ) (old new : List ℕ) : Type 0 where
+  begins : row ≡ startRow d shape → run ≡ record { start = startColumn d shape; end = startColumn d shape + 1 } → tests ≡ 0 → count ≡ 0 → new ≡ old
+      → Walking d shape row run tests count old new
+  goes : Going d shape row run tests count old new → Walking d shape row run tests count old new
+
+module _ (d : Screen) (ok : Allowed d) (e : Edges) (on : OnScreen d (outlined e)) {row tests count : ℕ} {run : Span} (old mid : List ℕ) where
+  -- the row is not before the start row, and the list is as long as it was
+  pub walking-from : Walking d (outlined e) row run tests count old mid → startRow d (outlined e) ≤ row
+  walking-from (Walking.begins a b t n m) = omega arith
+  walking-from (Walking.goes g) = let l = going-start≤ d ok e on old mid g in omega arith
+
+  pub walking-size : Walking d (outlined e) row run tests count old mid → length mid ≡ length old
+  walking-size (Walking.begins a b t n m) = ap length m
+  walking-size (Walking.goes g) = g .lists .1 .size
+
+  -- the run stands in the columns that meet the box
+  pub walking-inside : {span : Span} → MeetingColumns d e span → Walking d (outlined e) row run tests count old mid → (span .start ≤ run .start) × (run .end ≤ span .end)
+  walking-inside c (Walking.begins a b t n m) =
+      let i = start-column-inside d ok e on c in
+      let f = i .from in
+      let u = i .before in
+      let x = ap (λ (r : Span). r .start) b in
+      let y = ap (λ (r : Span). r .end) b in
+      (omega arith, omega arith)
+  walking-inside c (Walking.goes g) = going-inside d ok e on old mid g c
+
+  -- below it there is a touched tile
+  pub walking-below : row < rows d → MeetsRow d e row → Walking d (outlined e) row run tests count old mid → HitIn d (outlined e) row run
+  walking-below row< m (Walking.begins a b t n w) =
+      let x = ap (λ (r : Span). r .start) b in
+      let y = ap (λ (r : Span). r .end) b in
+      record {
+        column = startColumn d (outlined e);
+        inside = record { from = omega arith; before = omega arith };
+        hit = subst (λ (k : ℕ). Hit d (outlined e) k (startColumn d (outlined e))) (sym a) (start-touched d ok (outlined e) on);
+      }
+  walking-below row< m (Walking.goes g) = going-below d ok e on old mid g row< m
+
+  -- few enough tiles and tests to count
+  pub walking-count : Walking d (outlined e) row run tests count old mid → count ≤ row * columns d
+  walking-count (Walking.begins a b t n m) = omega arith
+  walking-count (Walking.goes g) = going-count d ok e on old mid g
+
+  pub walking-few : Walking d (outlined e) row run tests count old mid → tests ≤ 12289
+  walking-few (Walking.begins a b t n m) = omega arith
+  walking-few (Walking.goes g) = going-few d ok e on old mid g
+
+  -- a row more
+  pub walking-on : {columns′ n : ℕ} {step : Step} {Q : ℕ → Type 0} (new : List ℕ) → columns′ ≡ columns d → row < rows d → FromAbove d (outlined e) row run step
+      → Run Q (row * columns′) (step .run .start) (step .run .end) count n (plains mid) (plains new)
+      → Words (Named (row * columns′) (step .run) (step .whole)) count n mid new → Walking d (outlined e) row run tests count old mid
+      → Walking d (outlined e) (row + 1) (step .run) (tests + step .tests) n old new
+  walking-on {columns′} {n} {step} {Q} new c row< f r w (Walking.begins a b t z m) =
+      Walking.goes
+      (subst (λ (k : ℕ). Going d (outlined e) (row + 1) (step .run) k n old new) (omega arith)
+      (going-first d ok e on old new a refl c (subst (λ (s : Span). FromAbove d (outlined e) row s step) b f)
+      (subst (λ (P : Type 0). P) (λ i. Run Q (row * columns′) (step .run .start) (step .run .end) (z i) n (plains (m i)) (plains new)) r)
+      (subst (λ (P : Type 0). P) (λ i. Words (Named (row * columns′) (step .run) (step .whole)) (z i) n (m i) new) w)))
+  walking-on new c row< f r w (Walking.goes g) = Walking.goes (going-on d ok e on old mid g new c row< f r w)
+
+  -- after the last row of the box the start tile is counted, and the walk is whole
+  pub walking-counted : (span : Span) → MeetingRows d e span → row ≡ span .end → Walking d (outlined e) row run tests count old mid → 1 ≤ tests
+  walking-counted span c end (Walking.begins a b t n m) = let i = start-row-inside d ok e on c .before in absurd (omega arith)
+  walking-counted span c end (Walking.goes g) = let m = g .many in omega arith
+
+  pub walking-ends : (span : Span) → MeetingRows d e span → row ≡ span .end → tiles d ≤ length old → Walking d (outlined e) row run tests count old mid
+      → SteppedThrough d (outlined e) (record { count = count; tests = tests - 1 }) old mid
+  walking-ends span c end room (Walking.begins a b t n m) = let i = start-row-inside d ok e on c .before in absurd (omega arith)
+  walking-ends span c end room (Walking.goes g) = going-ends d ok e on old mid g span c end room

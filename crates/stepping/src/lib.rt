@@ -235,8 +235,8 @@ fn append(base: u32, run: Span, whole: Span, list: &mut [u32], count: u32) -> u3
     n
 }
 
-// The walk from its start tile, in column `column` of row `first`, and before the end of the rows that meet the bounding box. The start tile is looked at for its
-// flag, and is not counted.
+// The walk from its start tile, in column `column` of row `first`, and before the end of the rows that meet the bounding box. The start tile is what a test finds below
+// a run of itself, which tells its flag; that test is not counted.
 fn step_rows(
     screen: Screen,
     edges: Edges,
@@ -253,28 +253,24 @@ fn step_rows(
 {
     let columns = screen::columns_of(screen);
     let end = rows.end;
-    let step = step_row(
-        screen,
-        edges,
-        first,
-        span,
-        Span {
-            start: column,
-            end: column + 1,
-        },
-    );
-    let mut tests = step.tests - 1;
-    let mut run = step.run;
-    let mut count = append(first * columns, run, step.whole, list, 0);
-    let mut row = first + 1;
+    let mut run = Span {
+        start: column,
+        end: column + 1,
+    };
+    let mut tests = 0;
+    let mut count = 0;
+    let mut row = first;
     while row < end {
-        let next = step_row(screen, edges, row, span, run);
-        tests += next.tests;
-        run = next.run;
-        count = append(row * columns, run, next.whole, list, count);
+        let step = step_row(screen, edges, row, span, run);
+        run = step.run;
+        tests += step.tests;
+        count = append(row * columns, run, step.whole, list, count);
         row += 1;
     }
-    Stepped { count, tests }
+    Stepped {
+        count,
+        tests: tests - 1,
+    }
 }
 
 // Lists the tiles that a shape on the screen touches, rising, at the front of the list, each with a flag that says whether the shape covers the tile wholly, and

@@ -1,4 +1,5 @@
--- The tests of a bin are at most twice the tiles listed and the rows listed: those of an accepted one are those that its shape takes, and a refused one tells none.
+-- The tests of a bin are at most twice the tiles listed and the rows listed: those of an accepted one are those that its shape takes, and a refused one tells
+-- none.
 use mathlib.Core.Path.{_≡_, ap, subst}
 use mathlib.Core.List.{List}
 use Prim.Native.Nat.{ℕ, _≤_}

@@ -1,5 +1,6 @@
--- Which rectangles a shape on the screen touches: those that hold a vertex of it, those that hold one that it touches, and, of a row of rectangles side by side, one if it touches them all as one.
--- So the start tile is touched, and below a run of touched tiles there is a touched tile if the shape reaches the next row.
+-- Which rectangles a shape on the screen touches: those that hold a vertex of it, those that hold one that it touches, and, of a row of rectangles side by
+-- side, one if it touches them all as one. So the start tile is touched, and below a run of touched tiles there is a touched tile if the shape reaches the
+-- next row.
 use Prim.Native.Nat.{ℕ, _+_, _*_, _-_, _≤_, _<_}
 use mathlib.Core.Path.{_≡_, refl, sym, subst}
 use mathlib.Core.Bool.{Bool, true, false, not, cond}

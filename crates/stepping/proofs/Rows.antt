@@ -1,5 +1,5 @@
--- Theorems of the walk's definition: each run has the touched columns of its row and no other, so the tiles listed are the touched tiles; and the tests are at most
--- twice the tiles listed and the rows listed.
+-- Theorems of the walk's definition: each run has the touched columns of its row and no other, so the tiles listed are the touched tiles; and the tests are
+-- at most twice the tiles listed and the rows listed.
 use Prim.Native.Nat.{ℕ, zero, suc, _+_, _*_, _-_, _≤_, _<_}
 use mathlib.Core.Path.{_≡_, refl, sym, ap, subst, _∙_}
 use mathlib.Core.List.{List, [], _++_, append-nil, append-assoc}

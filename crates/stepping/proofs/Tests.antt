@@ -1,5 +1,5 @@
--- In a row that meets the bounding box the columns of the box and the edges say which tiles are touched; so what the functions find of a row are the tests that the
--- definition makes.
+-- In a row that meets the bounding box the columns of the box and the edges say which tiles are touched; so what the functions find of a row are the tests
+-- that the definition makes.
 use Prim.Native.Nat.{ℕ, suc, _+_, _-_, _≤_, _<_}
 use mathlib.Core.Path.{_≡_}
 use mathlib.Core.List.{_++_}

@@ -169,8 +169,8 @@ fn left_from(screen: Screen, edges: RowEdges, low: u32, column: u32, whole: Span
 }
 
 // The run of a row that starts with the first touched tile below the run above. A test is made for each tile below that run up to this one, for each other tile
-// of the row's run and for each miss beside it. No tile outside the columns of the bounding box is touched, so that these misses are known; and so is the one to
-// the left of a tile that was not the first to be tested.
+// of the row's run and for each miss beside it. No tile outside the columns of the bounding box is touched, so that these misses are known; and so is the one
+// to the left of a tile that was not the first to be tested.
 fn step_row(screen: Screen, edges: Edges, row: u32, span: Span, above: Span) -> Step
     requires { ⌜ (Allowed screen) × (Outline edges) × (MeetingColumns screen edges span) ⌝ }
     requires { ⌜ (row < rows screen) × (MeetsRow screen edges row) × (span .start ≤ above .start) × (above .end ≤ span .end) ⌝ }
@@ -235,8 +235,8 @@ fn append(base: u32, run: Span, whole: Span, list: &mut [u32], count: u32) -> u3
     n
 }
 
-// The walk from its start tile, in column `column` of row `first`, and before the end of the rows that meet the bounding box. The start tile is what a test finds below
-// a run of itself, which tells its flag; that test is not counted.
+// The walk from its start tile, in column `column` of row `first`, and before the end of the rows that meet the bounding box. The start tile is what a test
+// finds below a run of itself, which tells its flag; that test is not counted.
 fn step_rows(
     screen: Screen,
     edges: Edges,
@@ -273,8 +273,8 @@ fn step_rows(
     }
 }
 
-// Lists the tiles that a shape on the screen touches, rising, at the front of the list, each with a flag that says whether the shape covers the tile wholly, and
-// answers how many there are and how many tests were made.
+// Lists the tiles that a shape on the screen touches, rising, at the front of the list, each with a flag that says whether the shape covers the tile wholly,
+// and answers how many there are and how many tests were made.
 fn step_through(screen: Screen, shape: Shape, list: &mut [u32]) -> Stepped
     requires { ⌜ (Allowed screen) × (OnScreen screen shape) × (4096 ≤ length (now list)) ⌝ }
     ensures { λ r. ⌜ SteppedThrough screen shape r (now (list .entry)) (now (list .exit)) ⌝ }

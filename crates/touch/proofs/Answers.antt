@@ -15,12 +15,13 @@ use Rattle.screen.specs.Rectangle.{Proper, HasArea}
 use Rattle.shape.specs.declared.Vertex.{Vertex}
 use Rattle.shape.specs.declared.Shape.{Shape}
 use Rattle.touch.specs.declared.Bounds.{Bounds}
+use Rattle.touch.specs.declared.Corners.{Corners}
 use Rattle.touch.specs.declared.Ends.{Ends}
 use Rattle.touch.specs.Touches.{Touches}
 use Rattle.touch.specs.Corner.{three, bounds, Overlap, edgeValue, Apart, Separates}
 use Rattle.touch.specs.Corner.Apart.{above, below}
 use Rattle.touch.specs.Cover.{Wholly}
-use Rattle.touch.specs.Inner.{OnSide, Corners, AllOnSide, cornersOf, Keeps, Outer, Inner}
+use Rattle.touch.specs.Inner.{OnSide, AllOnSide, cornersOf, Keeps, Outer, Inner}
 use Rattle.touch.specs.Inner.OnSide.{over, under}
 use Rattle.touch.proofs.Theorem.{corner-is-touching}
 use Rattle.touch.proofs.Covering.{enclosed-is-wholly}
@@ -38,7 +39,7 @@ pub picks : (pick : Bool → ℤ) {v z u y : ℤ} {M N : ℕ} → Is v z M → I
 picks pick p q e same = same ∙ sym (ap pick (same-test p q e))
 
 -- one of two answers says whether either holds
-says-or : {P Q : Type 0} {r s : Bool} → Says r P → Says s Q → Says (r || s) (P ⊎ Q)
+pub says-or : {P Q : Type 0} {r s : Bool} → Says r P → Says s Q → Says (r || s) (P ⊎ Q)
 says-or {r = true} {s} h k = says-yes (inl (h .yes refl))
 says-or {r = false} {s = true} h k = says-yes (inr (k .yes refl))
 says-or {r = false} {s = false} h k = says-no (⊎-elim (h .no refl) (k .no refl))
@@ -92,7 +93,7 @@ module _ (third p q r s : ℤ) where
 
 -- ---- one edge, for covering
 
-abbrev on-side : ℤ → Corners → Bool
+abbrev pub on-side : ℤ → Corners → Bool
 on-side third v =
     (ltZ (pos 0) third && ((leZ (pos 0) (v .p) && leZ (pos 0) (v .q)) && (leZ (pos 0) (v .r) && leZ (pos 0) (v .s))))
     || (ltZ third (pos 0) && ((leZ (v .p) (pos 0) && leZ (v .q) (pos 0)) && (leZ (v .r) (pos 0) && leZ (v .s) (pos 0))))
@@ -114,7 +115,7 @@ module _ (third : ℤ) (v : Corners) where
   one-side h (over z p) = inl (z, ((p, over-side z (h .q)), (over-side z (h .r), over-side z (h .s))))
   one-side h (under z p) = inr (z, ((p, under-side z (h .q)), (under-side z (h .r), under-side z (h .s))))
 
-  on-side-says : Says (on-side third v) (AllOnSide third v)
+  pub on-side-says : Says (on-side third v) (AllOnSide third v)
   on-side-says =
       says-iff all-on-side (λ h. one-side h (h .p))
       (says-or

@@ -18,13 +18,14 @@ use Rattle.shape.specs.declared.Vertex.{Vertex}
 use Rattle.shape.specs.declared.Shape.{Shape}
 use Rattle.shape.specs.declared.Shape.the-variants.{Point, Line}
 use Rattle.touch.specs.declared.Edges.{Edges}
+use Rattle.touch.specs.declared.Corners.{Corners}
 use Rattle.touch.specs.declared.RowEdges.{RowEdges}
 use Rattle.touch.specs.declared.Cover as answer
 use Rattle.touch.specs.Corner.{three, triangle, Box, edgeValue}
 use Rattle.touch.specs.Corner.Apart.{above, below}
 use Rattle.touch.specs.Edges.{edgesOf, starts, Outline, rowEdges, Clear}
 use Rattle.touch.specs.Cover.{HasPoint, Wholly, CoverSays, isTouched, isWhole}
-use Rattle.touch.specs.Inner.{OnSide, Corners, AllApart, Keeps, Enclosed, cornersAt, EnclosedAt, CoverAt}
+use Rattle.touch.specs.Inner.{OnSide, AllApart, Keeps, Enclosed, cornersAt, EnclosedAt, CoverAt}
 use Rattle.touch.specs.Inner.OnSide.{over, under}
 use Rattle.touch.proofs.Natural.{Spot, Frame, Hits, turn, Pos}
 use Rattle.touch.proofs.Bias.{Spotted, Framed, depth, depthOf, spot, frame, spotted, framed, is-above, is-below, not-above, not-below, edge-diff, to-hits, from-hits}

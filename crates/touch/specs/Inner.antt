@@ -6,6 +6,7 @@ use Rattle.shape.specs.declared.Vertex.{Vertex}
 use Rattle.shape.specs.declared.Shape.{Shape}
 use Rattle.touch.specs.declared.RowEdge.{RowEdge}
 use Rattle.touch.specs.declared.RowEdges.{RowEdges}
+use Rattle.touch.specs.declared.Corners.{Corners}
 use Rattle.touch.specs.declared.Ends.{Ends}
 use Rattle.touch.specs.declared.Cover as answer
 use Rattle.touch.specs.Corner.{three, lesser, greater, edgeValue, Apart}
@@ -16,14 +17,7 @@ pub data OnSide (third v : ℤ) : Type 0 where
   over : pos 0 <ℤ third → pos 0 ≤ℤ v → OnSide third v
   under : third <ℤ pos 0 → v ≤ℤ pos 0 → OnSide third v
 
--- the edge values at four corners: left and right at the top, left and right at the bottom
-pub record Corners : Type 0 where
-  pub p : ℤ
-  pub q : ℤ
-  pub r : ℤ
-  pub s : ℤ
-
--- all four of them lie so
+-- the values at all four corners lie so
 pub record AllOnSide (third : ℤ) (v : Corners) : Type 0 where
   pub p : OnSide third (v .p)
   pub q : OnSide third (v .q)

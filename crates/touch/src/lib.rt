@@ -7,7 +7,7 @@ ghost use Rattle.shape.specs.Shape.{InRange, Placed};
 ghost use Rattle.touch.specs.Corner.{three, lesser, greater, bounds, Overlap, Box};
 ghost use Rattle.touch.specs.Edges.{AllPlaced, edgeOf, edgesOf, rowEdge, rowEdges, Within, EdgeRange, EdgesRange, RowEdgeRange, RowEdgesRange};
 ghost use Rattle.touch.specs.Cover.{CoverSays, BoxCoverSays, isTouched, isWhole};
-ghost use Rattle.touch.specs.Inner.{endsAt, Outer, Inner, CoverAt};
+ghost use Rattle.touch.specs.Inner.{AllApart, AllOnSide, cornersAt, endsAt, Outer, Inner, CoverAt};
 use screen::Rectangle;
 use shape::Shape;
 use shape::Vertex;
@@ -63,6 +63,14 @@ pub struct RowEdges {
 pub struct Ends {
     pub least: i64,
     pub greatest: i64,
+}
+
+// The edge values at the four corners of a rectangle: left and right at the top, left and right at the bottom.
+struct Corners {
+    p: i64,
+    q: i64,
+    r: i64,
+    s: i64,
 }
 
 // How a shape covers a rectangle: it touches it nowhere, or not all four corners are points of it, or all four are.
@@ -254,7 +262,7 @@ fn inner(edge: RowEdge, ends: Ends) -> bool
     over | under
 }
 
-// How the shape covers what lies in the row from left to right, where that meets its bounding box.
+// How the shape covers what lies in the row from left to right, where that meets its bounding box: by the least and the greatest value of each edge.
 pub fn cover_at(edges: RowEdges, left: i64, right: i64) -> Cover
     requires { ⌜ (RowEdgesRange edges) × (Within 524288 left) × (Within 524288 right) ⌝ }
     ensures { λ r. ⌜ CoverAt r edges left right ⌝ }
@@ -278,14 +286,67 @@ pub fn cover_at(edges: RowEdges, left: i64, right: i64) -> Cover
     }
 }
 
-// How the shape covers the rectangle.
+// The edge values at the four corners of what lies in the row from left to right.
+fn corners_at(edge: RowEdge, left: i64, right: i64) -> Corners
+    requires { ⌜ (RowEdgeRange edge) × (Within 524288 left) × (Within 524288 right) ⌝ }
+    ensures { λ r. ⌜ r ≡ cornersAt edge left right ⌝ }
+{
+    let near = (left - edge.x) * edge.dy;
+    let far = (right - edge.x) * edge.dy;
+    Corners {
+        p: near - edge.upper,
+        q: far - edge.upper,
+        r: near - edge.lower,
+        s: far - edge.lower,
+    }
+}
+
+// Whether the signs at the four corners are all of a side on which the third vertex does not lie; zero counts as touching.
+fn separates(edge: RowEdge, at: Corners) -> bool
+    ensures { λ r. ⌜ Says r (AllApart (edge .third) at) ⌝ }
+{
+    let third = edge.third;
+    let all_above = (third <= 0) & (((0 < at.p) & (0 < at.q)) & ((0 < at.r) & (0 < at.s)));
+    let all_below = (0 <= third) & (((at.p < 0) & (at.q < 0)) & ((at.r < 0) & (at.s < 0)));
+    all_above | all_below
+}
+
+// Whether the third vertex does not lie on the edge, and the signs at the four corners are all of its side, or zero.
+fn keeps(edge: RowEdge, at: Corners) -> bool
+    ensures { λ r. ⌜ Says r (AllOnSide (edge .third) at) ⌝ }
+{
+    let third = edge.third;
+    let none_below = (0 < third) & (((0 <= at.p) & (0 <= at.q)) & ((0 <= at.r) & (0 <= at.s)));
+    let none_above = (third < 0) & (((at.p <= 0) & (at.q <= 0)) & ((at.r <= 0) & (at.s <= 0)));
+    none_below | none_above
+}
+
+// The same as `cover_at`, by the signs at the four corners.
+fn cover_by_corners(edges: RowEdges, left: i64, right: i64) -> Cover
+    requires { ⌜ (RowEdgesRange edges) × (Within 524288 left) × (Within 524288 right) ⌝ }
+    ensures { λ r. ⌜ CoverAt r edges left right ⌝ }
+{
+    let ab = corners_at(edges.ab, left, right);
+    let bc = corners_at(edges.bc, left, right);
+    let ca = corners_at(edges.ca, left, right);
+    if (separates(edges.ab, ab) | separates(edges.bc, bc)) | separates(edges.ca, ca) {
+        return Cover::Apart;
+    }
+    if (keeps(edges.ab, ab) & keeps(edges.bc, bc)) & keeps(edges.ca, ca) {
+        Cover::Wholly
+    } else {
+        Cover::Partly
+    }
+}
+
+// How the shape covers the rectangle, by the signs at its four corners.
 pub fn corner_cover(shape: Shape, rectangle: Rectangle) -> Cover
     requires { ⌜ (InRange shape) × (Proper rectangle) × (HasArea rectangle) ⌝ }
     ensures { λ r. ⌜ CoverSays r shape rectangle ⌝ }
 {
     if box_touches(shape, rectangle) {
         let edges = edges_in(shape, rectangle);
-        cover_at(edges, rectangle.left, rectangle.right)
+        cover_by_corners(edges, rectangle.left, rectangle.right)
     } else {
         Cover::Apart
     }

@@ -1,5 +1,5 @@
--- `stepping::left_from` meets its contract. The invariant: the columns passed are hit, and those of them that are enclosed are found. The measure is the first of
--- them.
+-- `stepping::left_from` meets its contract. The invariant: the columns passed are hit, and those of them that are enclosed are found. The measure is the
+-- first of them.
 use Prim.Native.Nat.{ℕ, _-_, _≤_, _<_}
 use mathlib.Core.Path.{sym, subst, _∙_}
 use native.Mathlib.Omega.{arith}

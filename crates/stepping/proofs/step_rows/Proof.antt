@@ -1,5 +1,5 @@
--- `stepping::step_rows` meets its contract. The invariant: the rows passed are walked as the definition says, and their touched tiles are listed. The measure is
--- what is left of the rows.
+-- `stepping::step_rows` meets its contract. The invariant: the rows passed are walked as the definition says, and their touched tiles are listed. The measure
+-- is what is left of the rows.
 use Prim.Native.Nat.{ℕ, _+_, _*_, _-_, _≤_}
 use mathlib.Core.Path.{refl, ap}
 use native.Mathlib.Omega.{arith}

@@ -17,8 +17,8 @@ box-touches-requires c κs = search needs
 edges-in-requires : tie.Need-edges-in-requires
 edges-in-requires c κs = (c .before .before .pre .0, c .before .before .pre .1)
 
-cover-at-requires : tie.Need-cover-at-requires
-cover-at-requires c κs =
+cover-by-corners-requires : tie.Need-cover-by-corners-requires
+cover-by-corners-requires c κs =
     let s = c .before .before .before .before .before in
     let q = s .args .rectangle in
     let ok = s .pre .1 in
@@ -34,10 +34,10 @@ returns c =
     let q = s .args .rectangle in
     let g = c .before .struct-told2 .given in
     let box = c .before .before .before .before .before .box-touches .ensures .yes (c .before .before .before .before .if1 .taken) in
-    cover-at-says (s .args .shape) (s .pre .1) (s .pre .2) box (c .cover-at .result)
+    cover-at-says (s .args .shape) (s .pre .1) (s .pre .2) box (c .cover-by-corners .result)
     (subst (λ (P : Type 0). P)
-    (λ i. CoverAt (c .cover-at .result) (c .before .before .before .edges-in .ensures i) (kept-is w64 (q .left) (g .0 .1) i) (kept-is w64 (q .right) (g .1 .0 .1) i))
-    (c .cover-at .ensures))
+    (λ i. CoverAt (c .cover-by-corners .result) (c .before .before .before .edges-in .ensures i) (kept-is w64 (q .left) (g .0 .1) i) (kept-is w64 (q .right) (g .1 .0 .1) i))
+    (c .cover-by-corners .ensures))
 
 returns-2 : tie.Need-returns-2
 returns-2 c = λ h. c .before .box-touches .ensures .no (c .if1 .left) (touching-meets-box h)
@@ -48,6 +48,6 @@ corner-cover-spec =
     (tie.spec
     box-touches-requires
     edges-in-requires
-    cover-at-requires
+    cover-by-corners-requires
     returns
     returns-2)

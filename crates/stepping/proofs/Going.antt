@@ -69,8 +69,10 @@ module _ (d : Screen) (ok : Allowed d) (e : Edges) (on : OnScreen d (outlined e)
       c .whole (startColumn d shape) (start-column< d ok shape on) (record { from = b .left; to = b .right })
 
   -- the words of a run after those of the rows before it
-  run-flagged : (row : ℕ) (step : Step) {from count n : ℕ} {Q : ℕ → Type 0} {old mid new : List ℕ} → step .run .end ≤ columns d → WholeIn d shape row (step .run) (step .whole) → from ≤ count
-      → Run Q (row * columns d) (step .run .start) (step .run .end) count n (plains mid) (plains new) → Words (Named (row * columns d) (step .run) (step .whole)) count n mid new
+  run-flagged : (row : ℕ) (step : Step) {from count n : ℕ} {Q : ℕ → Type 0} {old mid new : List ℕ} → step .run .end ≤ columns d
+      → WholeIn d shape row (step .run) (step .whole) → from ≤ count
+      → Run Q (row * columns d) (step .run .start) (step .run .end) count n (plains mid) (plains new)
+      → Words (Named (row * columns d) (step .run) (step .whole)) count n mid new
       → Words (Flagged d shape) from count old mid → Words (Flagged d shape) from n old new
   run-flagged row step within whole le r w k =
       let a = r .as-many in
@@ -78,7 +80,8 @@ module _ (d : Screen) (ok : Allowed d) (e : Edges) (on : OnScreen d (outlined e)
       words-then le (omega arith) k (words-map (Flagged d shape) (named-flagged d ok shape row within whole) w)
 
   -- the first row, in which the start tile is the one that is found, and is not counted
-  going-from-start : (step : Step) {tested : List ℕ} {tests n : ℕ} {Q : ℕ → Type 0} (old new : List ℕ) → InRow d shape (startRow d shape) (startColumn d shape) (step .run) tested
+  going-from-start : (step : Step) {tested : List ℕ} {tests n : ℕ} {Q : ℕ → Type 0} (old new : List ℕ)
+      → InRow d shape (startRow d shape) (startColumn d shape) (step .run) tested
       → tests ≡ length tested + 1 → WholeIn d shape (startRow d shape) (step .run) (step .whole)
       → Run Q (startRow d shape * columns d) (step .run .start) (step .run .end) 0 n (plains old) (plains new)
       → Words (Named (startRow d shape * columns d) (step .run) (step .whole)) 0 n old new → Going d shape (startRow d shape + 1) (step .run) tests n old new
@@ -100,7 +103,8 @@ module _ (d : Screen) (ok : Allowed d) (e : Edges) (on : OnScreen d (outlined e)
         );
       }
 
-  going-first : {first column columns′ n : ℕ} {step : Step} {Q : ℕ → Type 0} (old new : List ℕ) → first ≡ startRow d shape → column ≡ startColumn d shape → columns′ ≡ columns d
+  going-first : {first column columns′ n : ℕ} {step : Step} {Q : ℕ → Type 0} (old new : List ℕ) → first ≡ startRow d shape
+      → column ≡ startColumn d shape → columns′ ≡ columns d
       → FromAbove d shape first (record { start = column; end = column + 1 }) step → Run Q (first * columns′) (step .run .start) (step .run .end) 0 n (plains old) (plains new)
       → Words (Named (first * columns′) (step .run) (step .whole)) 0 n old new → Going d shape (first + 1) (step .run) (step .tests) n old new
   going-first {first} {column} {columns′} {n} {step} {Q} old new a b c f r w =
@@ -254,7 +258,8 @@ module _ (d : Screen) (ok : Allowed d) (e : Edges) (on : OnScreen d (outlined e)
   walking-size (Walking.goes g) = g .lists .1 .size
 
   -- the run stands in the columns that meet the box
-  pub walking-inside : {span : Span} → MeetingColumns d e span → Walking d (outlined e) row run tests count old mid → (span .start ≤ run .start) × (run .end ≤ span .end)
+  pub walking-inside : {span : Span} → MeetingColumns d e span → Walking d (outlined e) row run tests count old mid
+      → (span .start ≤ run .start) × (run .end ≤ span .end)
   walking-inside c (Walking.begins a b t n m) =
       let i = start-column-inside d ok e on c in
       let f = i .from in

@@ -208,7 +208,8 @@ module _ (d : Screen) (ok : Allowed d) (shape : Shape) (on : OnScreen d shape) w
   abbrev most : ℤ
   most = far w s (columns d - 1)
 
-  across-all : {column : ℕ} {top bottom : ℤ} → column < columns d → Touches shape (from-to (near w s column) (far w s column) top bottom) → Touches shape (from-to least most top bottom)
+  across-all : {column : ℕ} {top bottom : ℤ} → column < columns d → Touches shape (from-to (near w s column) (far w s column) top bottom)
+      → Touches shape (from-to least most top bottom)
   across-all l = wider (record { left = near-rises w s (omega arith); right = far-rises w s (omega arith); top = ≤ℤ-refl _; bottom = ≤ℤ-refl _ })
 
   at-height : (v : Vertex) → OnGlass d v → Holds (from-to least most (v .y) (v .y)) v
@@ -254,7 +255,8 @@ module _ (d : Screen) (ok : Allowed d) (shape : Shape) (on : OnScreen d shape) w
       }
 
   -- on the side between two rows a tile is touched, where the upper row is touched and the shape reaches the lower
-  between : (row column : ℕ) → column < columns d → row + 1 < rows d → near h s (row + 1) ≤ℤ bounds (three shape) .bottom → Hit d shape row column → Column (far h s row) (far h s row)
+  between : (row column : ℕ) → column < columns d → row + 1 < rows d → near h s (row + 1) ≤ℤ bounds (three shape) .bottom → Hit d shape row column
+      → Column (far h s row) (far h s row)
   between row column l r reaches t =
       one-of
       (column-has-no-gap shape (≤ℤ-refl (far h s row)) (≤ℤ-refl (far h s row))

@@ -90,7 +90,8 @@ module _ (d : Screen) (ok : Allowed d) (shape : Shape) where
           only = λ k k< t. record { from = from-start k k< t (lt-or-ge k (run .start)); before = to-end k k< t (lt-or-ge k (run .end)) };
         }
 
-  pub row-is-whole : {row start : ℕ} {run : Span} {ts : List ℕ} → start < columns d → Hit d shape row start → InRow d shape row start run ts → WholeRun d shape row run
+  pub row-is-whole : {row start : ℕ} {run : Span} {ts : List ℕ} → start < columns d → Hit d shape row start → InRow d shape row start run ts
+      → WholeRun d shape row run
   row-is-whole {row} {start} l h (InRow.both r t) = whole-run row start l h (right-reach d shape row r .0) (left-back d shape row t .0)
 
   -- a row takes at most one test more than it has tiles
@@ -162,7 +163,8 @@ module _ (d : Screen) (ok : Allowed d) (shape : Shape) where
         over = λ i l. refl;
       }
     where
-      written : (i : ℕ) → length us ≤ i → i < length us + length (runTiles d row run) → getD (us ++ (runTiles d row run ++ ys)) i 0 + length us ≡ row * columns d + run .start + i
+      written : (i : ℕ) → length us ≤ i → i < length us + length (runTiles d row run)
+          → getD (us ++ (runTiles d row run ++ ys)) i 0 + length us ≡ row * columns d + run .start + i
       written i l h =
           let j : ℕ = i - length us in
           let e : length us + j ≡ i = omega arith in

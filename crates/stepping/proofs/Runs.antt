@@ -26,7 +26,8 @@ pub back-stop : (P : ℕ → Type 0) {first before : ℕ} → first ≡ before +
 back-stop P {first} {before} e f k d p = f (subst P (omega arith) p)
 
 -- a run to a column by another name
-pub run-to : {P : ℕ → Type 0} {base from stop stop′ count n : ℕ} {old new : List ℕ} → stop ≡ stop′ → Run P base from stop count n old new → Run P base from stop′ count n old new
+pub run-to : {P : ℕ → Type 0} {base from stop stop′ count n : ℕ} {old new : List ℕ} → stop ≡ stop′ → Run P base from stop count n old new
+    → Run P base from stop′ count n old new
 run-to {P} {base} {from} {stop} {stop′} {count} {n} {old} {new} e r = subst (λ (m : ℕ). Run P base from m count n old new) e r
 
 module _ (d : Screen) (shape : Shape) (row : ℕ) where
@@ -109,7 +110,8 @@ module _ (d : Screen) (shape : Shape) (row : ℕ) where
 
   -- ---- and back
 
-  pub right-reach : {column stop : ℕ} {ts : List ℕ} → Right d shape row column stop ts → Reach (Hit d shape row) (columns d) column stop × (length ts + column ≤ stop + 1)
+  pub right-reach : {column stop : ℕ} {ts : List ℕ} → Right d shape row column stop ts
+      → Reach (Hit d shape row) (columns d) column stop × (length ts + column ≤ stop + 1)
   right-reach {column} (Right.edge e) =
       (record { from = omega arith; within = omega arith; all = λ k l h. absurd (omega arith); ends = λ l. absurd (omega arith) }, omega arith)
   right-reach {column} (Right.miss l f) =

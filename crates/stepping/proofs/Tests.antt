@@ -48,7 +48,8 @@ module _ (d : Screen) (ok : Allowed d) (e : Edges) (o : Outline e) (span : Span)
       outline-clear-is-touching o (rectangle-proper d ok k< r<) (record { left = n .from; right = n .to; top = m .from; bottom = m .to }) .1 h
 
   -- the hull of the enclosed columns has those of the wholly covered tiles
-  hull-whole : {n : ℕ} {run whole : Span} → n ≤ columns d → run .end ≤ n → Hull (EnclosedIn d in-row) n (run .start) (run .end) whole → WholeIn d (outlined e) row run whole
+  hull-whole : {n : ℕ} {run whole : Span} → n ≤ columns d → run .end ≤ n → Hull (EnclosedIn d in-row) n (run .start) (run .end) whole
+      → WholeIn d (outlined e) row run whole
   hull-whole {n} {run} {whole} n≤ within h k i =
       let a = i .from in
       let b = i .before in
@@ -109,14 +110,16 @@ module _ (d : Screen) (ok : Allowed d) (e : Edges) (o : Outline e) (span : Span)
               ⊎-elim (λ (u : k < low). edge k k< e u p known) (λ (u : low ≤ k). b .ends k e u (hit-clear k k< p)) (lt-or-ge k low);
         }
       where
-        edge : (k : ℕ) → k < columns d → suc k ≡ start → k < low → H k → ((above .start < column) × (low ≡ column)) ⊎ ((column ≤ above .start) × (low ≡ span .start)) → ⊥
+        edge : (k : ℕ) → k < columns d → suc k ≡ start → k < low → H k
+            → ((above .start < column) × (low ≡ column)) ⊎ ((column ≤ above .start) × (low ≡ span .start)) → ⊥
         edge k k< e u p =
             ⊎-elim (λ v. let w = b .within in let x = v .1 in let y = v .0 in let t = b .to in f .none k (omega arith) (omega arith) (hit-clear k k< p))
             (λ v. let i = hit-inside k k< p .from in let x = v .1 in omega arith)
 
     pub row-found : (start end low missed-right missed-left : ℕ) (whole : Span)
         → Reach (ClearIn d in-row) (span .end) (column + 1) end → ((above .start < column) × (low ≡ column)) ⊎ ((column ≤ above .start) × (low ≡ span .start))
-        → Back (ClearIn d in-row) low column start → Miss (end < columns d) missed-right → Miss (0 < start) missed-left → Hull (EnclosedIn d in-row) (span .end) start end whole
+        → Back (ClearIn d in-row) low column start → Miss (end < columns d) missed-right → Miss (0 < start) missed-left
+        → Hull (EnclosedIn d in-row) (span .end) start end whole
         → FromAbove d (outlined e) row above
         (record { run = record { start = start; end = end }; whole = whole; tests = column - above .start + (end - start) + missed-right + missed-left })
     row-found start end low missed-right missed-left whole reach known back mr ml hull =

@@ -24,14 +24,16 @@ module _ (d : Screen) (shape : Shape) where
     right-one (Right.hit l h t) (Right.miss l′ f) = absurd (f h)
     right-one {column} (Right.hit l h t) (Right.hit l′ h′ t′) = let w = right-one t t′ in (w .0, ap (λ (us : List ℕ). tileAt d column row ∷ us) (w .1))
 
-    left-one : {column first first′ : ℕ} {ts ts′ : List ℕ} → Left d shape row column first ts → Left d shape row column first′ ts′ → (first ≡ first′) × (ts ≡ ts′)
+    left-one : {column first first′ : ℕ} {ts ts′ : List ℕ} → Left d shape row column first ts → Left d shape row column first′ ts′
+        → (first ≡ first′) × (ts ≡ ts′)
     left-one Left.edge Left.edge = (refl, refl)
     left-one (Left.miss f) (Left.miss f′) = (refl, refl)
     left-one (Left.miss f) (Left.hit h t) = absurd (f h)
     left-one (Left.hit h t) (Left.miss f) = absurd (f h)
     left-one (Left.hit {c} h t) (Left.hit h′ t′) = let w = left-one t t′ in (w .0, ap (λ (us : List ℕ). tileAt d c row ∷ us) (w .1))
 
-    find-one : {end column found found′ : ℕ} {ts ts′ : List ℕ} → Find d shape row end column found ts → Find d shape row end column found′ ts′ → (found ≡ found′) × (ts ≡ ts′)
+    find-one : {end column found found′ : ℕ} {ts ts′ : List ℕ} → Find d shape row end column found ts → Find d shape row end column found′ ts′
+        → (found ≡ found′) × (ts ≡ ts′)
     find-one (Find.hit l h) (Find.hit l′ h′) = (refl, refl)
     find-one (Find.hit l h) (Find.miss l′ f t) = absurd (f h)
     find-one (Find.miss l f t) (Find.hit l′ h) = absurd (f h)
@@ -52,7 +54,8 @@ module _ (d : Screen) (shape : Shape) where
   from-start-row (Steps.start r) = omega arith
   from-start-row (Steps.next p f r) = let l = from-start-row p in omega arith
 
-  steps-one : {row row′ : ℕ} {run run′ : Span} {us us′ ts ts′ : List ℕ} → row ≡ row′ → Steps d shape row run us ts → Steps d shape row′ run′ us′ ts′ → Same run run′ us us′ ts ts′
+  steps-one : {row row′ : ℕ} {run run′ : Span} {us us′ ts ts′ : List ℕ} → row ≡ row′ → Steps d shape row run us ts → Steps d shape row′ run′ us′ ts′
+      → Same run run′ us us′ ts ts′
   steps-one e (Steps.start r) (Steps.start r′) =
       let a = row-one r r′ in
       record { run = a .0; listed = ap (runTiles d (startRow d shape)) (a .0); tested = a .1 }

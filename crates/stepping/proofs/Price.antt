@@ -17,7 +17,8 @@ use Rattle.walk.proofs.Lists.{lists-as-long}
 use Rattle.walk.proofs.Touched.{rises-throughout, touched-tiles-unique}
 use Rattle.stepping.specs.Stepping.{OnScreen, Hit, Steps, Walk, startRow, numbersFrom}
 use Rattle.stepping.specs.Stepped.{TestsSay, RowsOf}
-use Rattle.stepping.proofs.Rows.{numbers-at, hit-touched, steps-whole, touched-from-start, walk-last, walk-lists, walk-price}
+use Rattle.stepping.proofs.Exists.{walk-exists}
+use Rattle.stepping.proofs.Rows.{numbers-length, numbers-at, hit-touched, steps-whole, touched-from-start, walk-last, walk-lists, walk-price}
 
 -- a column of the row is touched
 pub record Touched (d : Screen) (shape : Shape) (row : ℕ) : Type 0 where
@@ -65,6 +66,35 @@ module _ (d : Screen) (ok : Allowed d) (shape : Shape) (on : OnScreen d shape) w
               };
         }
 
+    -- and these are the rows in which the touched tiles stand
+    walked-rows : {ts : List ℕ} → TouchedTiles d shape ts → RowsOf d ts (numbersFrom (startRow d shape) many)
+    walked-rows {ts} T =
+        record {
+          rising =
+              λ i h.
+              omega
+              (arith, numbers-at (startRow d shape) many i (omega (arith, long)), numbers-at (startRow d shape) many (suc i) (omega (arith, long)));
+          row =
+              λ i h.
+              let k : ℕ = startRow d shape + i in
+              let k≤ : k ≤ w .row = omega (arith, long) in
+              let c = row-touched (w .steps) k (omega arith) k≤ in
+              let k< : k < rows d = let a = w .last .within in omega arith in
+              let t = hit-touched d ok shape k (c .column) k< (c .within) (c .hit) in
+              let j = T .all (tileAt d (c .column) k) (t .0) (t .1) in
+              (j .0, j .1, ap (rowOf d) (j .2) ∙ row-is d ok (c .column) k (c .within) ∙ sym (numbers-at (startRow d shape) many i (omega (arith, long))));
+          all =
+              λ j h.
+              let p = T .touched j h in
+              let a = touched-from-start d ok shape on _ p in
+              let b = walk-last d ok shape on w _ p in
+              let i : ℕ = rowOf d (getD ts j 0) - startRow d shape in
+              (i, omega (arith, long), omega (arith, numbers-at (startRow d shape) many i (omega arith)));
+        }
+      where
+        long : length (numbersFrom (startRow d shape) many) ≡ many
+        long = numbers-length (startRow d shape) many
+
     module _ {ts rs : List ℕ} (T : TouchedTiles d shape ts) (R : RowsOf d ts rs) where
       listed-rows : Lists Rows (length rs) rs rs
       listed-rows =
@@ -98,3 +128,7 @@ pub tests-price : (d : Screen) → Allowed d → (shape : Shape) {tests : ℕ} {
     → tests ≤ 2 * length ts + length rs
 tests-price d ok shape (TestsSay.on-screen on us vs w e) T R = omega (arith, e, walk-price-by-rows d ok shape on w T R)
 tests-price d ok shape (TestsSay.off-screen off e) T R = omega arith
+
+-- and there are such rows
+pub rows-exist : (d : Screen) → Allowed d → (shape : Shape) → OnScreen d shape → {ts : List ℕ} → TouchedTiles d shape ts → (rs : List ℕ) × RowsOf d ts rs
+rows-exist d ok shape on T = (_, walked-rows d ok shape on (walk-exists d ok shape on .2) T)

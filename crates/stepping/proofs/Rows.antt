@@ -34,7 +34,7 @@ use Rattle.stepping.proofs.Points.{topmost-on-glass, topmost-highest, s
 
 -- ---- the tiles of a run, as a list
 
-numbers-length : (t n : ℕ) → length (numbersFrom t n) ≡ n
+pub numbers-length : (t n : ℕ) → length (numbersFrom t n) ≡ n
 numbers-length t zero = refl
 numbers-length t (suc n) = ap suc (numbers-length (suc t) n)
 

@@ -2,13 +2,12 @@
 -- none.
 use mathlib.Core.Path.{_≡_, ap, subst}
 use mathlib.Core.List.{List}
-use Prim.Native.Nat.{ℕ, _≤_}
+use Prim.Native.Nat.{ℕ}
 use native.Mathlib.Omega.{arith}
 use lib.ListN.{length}
 use Rattle.shape.specs.declared.Shape.{Shape}
 use Rattle.walk.proofs.Touched.{touched-tiles-unique}
 use Rattle.stepping.proofs.Price.{tests-price}
-use Rattle.snap.specs.declared.SnappedShape.{SnappedShape}
 use Rattle.pool.specs.Words.{layoutOf}
 use Rattle.pool.specs.Sound.{Sound, screenOf}
 use Rattle.calls.specs.declared.Binned.{Binned}

@@ -9,8 +9,9 @@ use Rattle.touch.specs.Corner.{three, triangle}
 use Rattle.touch.proofs.Covering.{wholly-as-triangle}
 use Rattle.touch.proofs.Weights.{touches-as-triangle}
 use Rattle.stepping.specs.declared.Stepped.{Stepped}
-use Rattle.stepping.specs.Stepped.{SteppedThrough}
-use Rattle.stepping.specs.Stepping.{Right, Left, Find, InRow, Steps, Walk}
+use Rattle.stepping.specs.Stepped.{TestsSay, WalkedThrough}
+use Rattle.stepping.specs.Stepping.{OnScreen, Right, Left, Find, InRow, Steps, Walk}
+use Rattle.stepping.proofs.Points.{triangle-on-screen}
 
 module _ (d : Screen) (shape : Shape) where
   abbrev S : Shape
@@ -38,7 +39,7 @@ module _ (d : Screen) (shape : Shape) where
   steps-as (Steps.start r) = Steps.start (row-as r)
   steps-as (Steps.next p f r) = Steps.next (steps-as p) (find-as f) (row-as r)
 
-  pub walk-as : {listed tested : List ℕ} → Walk d S listed tested → Walk d shape listed tested
+  walk-as : {listed tested : List ℕ} → Walk d S listed tested → Walk d shape listed tested
   walk-as w =
       record {
         row = w .row;
@@ -47,9 +48,14 @@ module _ (d : Screen) (shape : Shape) where
         steps = steps-as (w .steps);
       }
 
-  -- and so is all that is said of it
-  pub stepped-as : {answer : Stepped} {old new : List ℕ} → SteppedThrough d S answer old new → SteppedThrough d shape answer old new
-  stepped-as s =
+  -- so it takes as many tests
+  tests-as : OnScreen d shape → {tests : ℕ} → TestsSay d S tests → TestsSay d shape tests
+  tests-as on (TestsSay.on-screen h us ts w e) = TestsSay.on-screen on us ts (walk-as w) e
+  tests-as on (TestsSay.off-screen off e) = absurd (off (triangle-on-screen d shape on))
+
+  -- and what is answered of the triangle is answered of the shape
+  pub walked-as : OnScreen d shape → {answer : Stepped} {old new : List ℕ} → WalkedThrough d S answer old new → WalkedThrough d shape answer old new
+  walked-as on s =
       let w = s .walked in
       let t = w .touched in
       record {
@@ -66,8 +72,5 @@ module _ (d : Screen) (shape : Shape) where
               size = w .size;
               rest = w .rest;
             };
-        listed = s .listed;
-        tested = s .tested;
-        walk = walk-as (s .walk);
-        tests = s .tests;
+        tests = tests-as on (s .tests);
       }

@@ -27,7 +27,7 @@ use Rattle.walk.proofs.Touched.{lists-walked}
 use Rattle.stepping.specs.declared.Step.{Step}
 use Rattle.stepping.specs.Stepping.{OnScreen, Hit, InRow, Steps, startRow, startColumn}
 use Rattle.stepping.specs.Row.{HitIn, WholeIn, Named, FromAbove}
-use Rattle.stepping.specs.Stepped.{SteppedThrough}
+use Rattle.stepping.specs.Stepped.{TestsSay, WalkedThrough}
 use Rattle.stepping.proofs.Runs.{find-found}
 use Rattle.stepping.proofs.Points.{start-row<, start-column<, start-touched}
 use Rattle.stepping.proofs.Rows.{columns≤, rows≤, WholeRun, row-tests, row-end≤, one-row-more, steps-whole, steps-below, steps-few, steps-price, none-before, none-after}
@@ -206,7 +206,7 @@ module _ (d : Screen) (ok : Allowed d) (e : Edges) (on : OnScreen d (outlined e)
         (steps-below d ok shape on (g .steps) (omega arith) (subst (λ (k : ℕ). near (d .height) (d .s) k ≤ℤ bounds (three shape) .bottom) (sym n) (m .from)))
 
     -- after the last row of the box the walk is whole
-    going-ends : (span : Span) → MeetingRows d e span → row ≡ span .end → tiles d ≤ length old → SteppedThrough d shape (record { count = count; tests = tests - 1 }) old mid
+    going-ends : (span : Span) → MeetingRows d e span → row ≡ span .end → tiles d ≤ length old → WalkedThrough d shape (record { count = count; tests = tests - 1 }) old mid
     going-ends span c end room =
         let n = g .next in
         let q : row * columns d ≡ suc (g .before) * columns d = ap (λ (k : ℕ). k * columns d) (g .next) in
@@ -222,10 +222,9 @@ module _ (d : Screen) (ok : Allowed d) (e : Edges) (on : OnScreen d (outlined e)
               omega arith)
               (subst (λ (k : ℕ). Lists (Below k (IsTouched d shape)) count (plains old) (plains mid)) (omega arith) (g .lists .0)))
               (g .lists .1);
-          listed = g .listed;
-          tested = g .tested;
-          walk =
-              record {
+          tests =
+              TestsSay.on-screen on (g .listed) (g .tested)
+              (record {
                 row = g .before;
                 last =
                     record {
@@ -235,8 +234,8 @@ module _ (d : Screen) (ok : Allowed d) (e : Edges) (on : OnScreen d (outlined e)
                     };
                 run = run;
                 steps = g .steps;
-              };
-          tests = let m = g .many in omega arith;
+              })
+              (let m = g .many in omega arith);
         }
 
 -- ---- the walk from its start tile
@@ -309,6 +308,6 @@ module _ (d : Screen) (ok : Allowed d) (e : Edges) (on : OnScreen d (outlined e)
   walking-counted span c end (Walking.goes g) = let m = g .many in omega arith
 
   pub walking-ends : (span : Span) → MeetingRows d e span → row ≡ span .end → tiles d ≤ length old → Walking d (outlined e) row run tests count old mid
-      → SteppedThrough d (outlined e) (record { count = count; tests = tests - 1 }) old mid
+      → WalkedThrough d (outlined e) (record { count = count; tests = tests - 1 }) old mid
   walking-ends span c end room (Walking.begins a b t n m) = let i = start-row-inside d ok e on c .before in absurd (omega arith)
   walking-ends span c end room (Walking.goes g) = going-ends d ok e on old mid g span c end room

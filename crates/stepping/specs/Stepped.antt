@@ -1,4 +1,4 @@
--- What the stepping walk answers, and what the walk answers of any shape.
+-- What a walk answers: the touched tiles, and how many tests they took.
 use Prim.Native.Nat.{ℕ, suc, _<_}
 use mathlib.Core.Path.{_≡_}
 use mathlib.Core.List.{List}
@@ -9,15 +9,6 @@ use Rattle.shape.specs.declared.Shape.{Shape}
 use Rattle.walk.specs.Touched.{Walked}
 use Rattle.stepping.specs.declared.Stepped.{Stepped}
 use Rattle.stepping.specs.Stepping.{OnScreen, Walk}
-
--- the touched tiles stand at the front of the slice, rising, with their flags, and every other place is as it was; the tests are as many as the walk's
--- definition has
-pub record SteppedThrough (d : Screen) (shape : Shape) (answer : Stepped) (old new : List ℕ) : Type 0 where
-  pub walked : Walked d shape (answer .count) old new
-  pub listed : List ℕ
-  pub tested : List ℕ
-  pub walk : Walk d shape listed tested
-  pub tests : answer .tests ≡ length tested
 
 -- the tests that a shape takes: those of the stepping walk's definition where every vertex lies on the screen, and else none
 pub data TestsSay (d : Screen) (shape : Shape) (tests : ℕ) : Type 0 where
@@ -30,7 +21,7 @@ pub record RowsOf (d : Screen) (ts rs : List ℕ) : Type 0 where
   pub row : (i : ℕ) → i < length rs → (j : ℕ) × (j < length ts) × (rowOf d (getD ts j 0) ≡ getD rs i 0)
   pub all : (j : ℕ) → j < length ts → (i : ℕ) × (i < length rs) × (getD rs i 0 ≡ rowOf d (getD ts j 0))
 
--- the touched tiles stand at the front of the slice as after any walk, and the tests are those that the shape takes
+-- the touched tiles stand at the front of the slice, rising, with their flags, and every other place is as it was; the tests are those that the shape takes
 pub record WalkedThrough (d : Screen) (shape : Shape) (answer : Stepped) (old new : List ℕ) : Type 0 where
   pub walked : Walked d shape (answer .count) old new
   pub tests : TestsSay d shape (answer .tests)

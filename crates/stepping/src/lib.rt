@@ -2,7 +2,7 @@
 // number of tests. It starts in the tile of the topmost vertex. In a row it tests to the right and then to the left of the row's start tile; the next row
 // starts with the first touched tile below the run. Shapes that reach off the screen are walked row by row in their bounding box, and no test of theirs counts.
 ghost use mathlib.Core.Path.{_≡_};
-ghost use Prim.Native.Nat.{ℕ, _+_, _*_, _≤_, _<_, min, max};
+ghost use Prim.Native.Nat.{ℕ, _+_, _*_, _≤_, _<_};
 ghost use lib.ListN.{length};
 ghost use Rattle.numbers.specs.Flag.{plains};
 ghost use Rattle.numbers.specs.Says.{Says};
@@ -13,7 +13,7 @@ ghost use Rattle.walk.specs.Lists.{Words};
 ghost use Rattle.walk.specs.Row.{ClearIn, EnclosedIn, Run, outlined, MeetingColumns, MeetingRows, MeetsRow};
 ghost use Rattle.stepping.specs.Stepping.{OnAxis, OnGlass, OnScreen, upper, topmost, startColumn, startRow};
 ghost use Rattle.stepping.specs.Row.{Reach, Back, Hull, joined, grown, HitIn, FromAbove, Named};
-ghost use Rattle.stepping.specs.Stepped.{SteppedThrough, WalkedThrough};
+ghost use Rattle.stepping.specs.Stepped.{WalkedThrough};
 use numbers::flagged;
 use numbers::wide;
 use screen::Screen;
@@ -249,7 +249,7 @@ fn step_rows(
     requires { ⌜ (Allowed screen) × (Outline edges) × (OnScreen screen (outlined edges)) ⌝ }
     requires { ⌜ (MeetingColumns screen edges span) × (MeetingRows screen edges rows) ⌝ }
     requires { ⌜ (first ≡ startRow screen (outlined edges)) × (column ≡ startColumn screen (outlined edges)) × (4096 ≤ length (now list)) ⌝ }
-    ensures { λ r. ⌜ SteppedThrough screen (outlined edges) r (now (list .entry)) (now (list .exit)) ⌝ }
+    ensures { λ r. ⌜ WalkedThrough screen (outlined edges) r (now (list .entry)) (now (list .exit)) ⌝ }
 {
     let columns = screen::columns_of(screen);
     let end = rows.end;
@@ -277,7 +277,7 @@ fn step_rows(
 // and answers how many there are and how many tests were made.
 fn step_through(screen: Screen, shape: Shape, list: &mut [u32]) -> Stepped
     requires { ⌜ (Allowed screen) × (OnScreen screen shape) × (4096 ≤ length (now list)) ⌝ }
-    ensures { λ r. ⌜ SteppedThrough screen shape r (now (list .entry)) (now (list .exit)) ⌝ }
+    ensures { λ r. ⌜ WalkedThrough screen shape r (now (list .entry)) (now (list .exit)) ⌝ }
 {
     let vertices = touch::three_of(shape);
     let spans = walk::box_spans(screen, vertices);

@@ -1,11 +1,9 @@
 -- In a row, what lies between two intervals that are enclosed is enclosed: along a row an edge value rises throughout or falls throughout.
-use mathlib.Core.Path.{refl}
 use native.Mathlib.Omega.{arith}
 use native.Mathlib.Nat.{mul-le-mul-left}
 use Prim.Native.Nat.{ℕ, suc}
 use lib.IntN.{ℤ, pos, negsuc, _-ℤ_, _*ℤ_}
 use lib.Signed.{_≤ℤ_}
-use Rattle.numbers.specs.Diff.{Diff}
 use Rattle.numbers.proofs.Diff.{diff-pos, diff-any, diff-mul, diff-sub, diff-le, le-diff, ≤ℤ-trans}
 use Rattle.touch.specs.declared.RowEdge.{RowEdge}
 use Rattle.touch.specs.declared.RowEdges.{RowEdges}

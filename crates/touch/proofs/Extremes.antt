@@ -9,7 +9,6 @@ use Rattle.numbers.specs.Says.{Says}
 use Rattle.numbers.proofs.Diff.{diff-pos, diff-any, diff-sub, diff-le, diff-lt, le-diff, lt-diff, ≤ℤ-trans, <ℤ-≤ℤ, ≤ℤ-or-<}
 use Rattle.numbers.proofs.Deciding.{says-leℤ}
 use Rattle.touch.specs.declared.RowEdge.{RowEdge}
-use Rattle.touch.specs.declared.Corners.{Corners}
 use Rattle.touch.specs.Corner.{lesser, greater}
 use Rattle.touch.specs.Corner.Apart.{above, below}
 use Rattle.touch.specs.Edges.{ApartAt}

@@ -1,6 +1,6 @@
 -- `stepping::step_row` meets its contract: one test for each column of the run above up to the one found, one for each other tile of the run, and one for
 -- each miss beside it; the wholly covered tiles are those that the tests told of.
-use Prim.Native.Nat.{ℕ, _+_, _<_}
+use Prim.Native.Nat.{_+_, _<_}
 use mathlib.Core.Path.{sym, subst}
 use mathlib.Core.Logic.{⊎-elim, inl, inr}
 use native.Mathlib.Omega.{arith}

@@ -1,6 +1,6 @@
 -- `stepping::step_through` meets its contract: the rows and columns are those that meet the bounding box, the start tile is that of the topmost vertex, and the
 -- edges are those of the shape.
-use mathlib.Core.Path.{_≡_, sym, ap, subst, _∙_}
+use mathlib.Core.Path.{sym, ap, subst, _∙_}
 use lib.IntN.{ℤ, pos}
 use lib.Signed.{_≤ℤ_}
 use mir.Syntax.{w32}
@@ -8,14 +8,13 @@ use Rattle.numbers.proofs.Is.{kept-is}
 use Rattle.screen.specs.Held.{roundedDown, roundedUpLessOne}
 use Rattle.shape.specs.declared.Vertex.{Vertex}
 use Rattle.touch.specs.declared.Edges.{Edges}
-use Rattle.touch.specs.declared.Three.{Three}
 use Rattle.touch.specs.Edges.{AllPlaced, edgesOf, starts, Outline}
 use Rattle.touch.proofs.Sizes.{three-placed, outline}
 use Rattle.walk.specs.Row.{outlined, MeetingColumns, MeetingRows}
 use Rattle.stepping.specs.Stepping.{OnScreen, topmost}
-use Rattle.stepping.specs.Stepped.{SteppedThrough}
+use Rattle.stepping.specs.Stepped.{WalkedThrough}
 use Rattle.stepping.proofs.Points.{on-screen-in-range, triangle-on-screen, topmost-in-range}
-use Rattle.stepping.proofs.As.{stepped-as}
+use Rattle.stepping.proofs.As.{walked-as}
 use borrow.Author.Needs.{needs}
 use Rattle.stepping.proofs.step_through.Statement.{statement}
 use Rattle.stepping.proofs.step_through.Tie as tie
@@ -96,8 +95,8 @@ returns c =
     let d = s .args .screen in
     let stepped = c .before .before .step-rows in
     let edges = c .before .before .before .before .edges-of .ensures ∙ ap edgesOf (c .before .before .before .before .before .before .before .before .before .before .before .three-of .ensures) in
-    stepped-as d (s .args .shape)
-    (subst (λ (e : Edges). SteppedThrough d (outlined e) (stepped .result) (s .args .list .now) (stepped .last .1 .1 .1 .1 .1 .1 .0)) edges (stepped .ensures))
+    walked-as d (s .args .shape) (s .pre .1)
+    (subst (λ (e : Edges). WalkedThrough d (outlined e) (stepped .result) (s .args .list .now) (stepped .last .1 .1 .1 .1 .1 .1 .0)) edges (stepped .ensures))
 
 pub step-through-spec : {M : Type 1} → statement M
 step-through-spec =

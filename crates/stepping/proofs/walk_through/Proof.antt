@@ -1,6 +1,6 @@
 -- `stepping::walk_through` meets its contract: the one walk or the other, as `on_screen` answers.
 use mathlib.Core.Path.{refl}
-use Rattle.stepping.specs.Stepped.TestsSay.{on-screen, off-screen}
+use Rattle.stepping.specs.Stepped.TestsSay.{off-screen}
 use borrow.Author.Needs.{needs}
 use Rattle.stepping.proofs.walk_through.Statement.{statement}
 use Rattle.stepping.proofs.walk_through.Tie as tie
@@ -15,12 +15,7 @@ same-length : tie.Need-same-length
 same-length c = search needs
 
 returns : tie.Need-returns
-returns c =
-    let w = c .before .before .step-through .ensures in
-    record {
-      walked = w .walked;
-      tests = on-screen (c .before .before .before .before .before .on-screen .ensures .yes (c .before .before .before .before .if1 .taken)) (w .listed) (w .tested) (w .walk) (w .tests);
-    }
+returns c = c .before .before .step-through .ensures
 
 touched-tiles-requires : tie.Need-touched-tiles-requires
 touched-tiles-requires c κs = search needs

@@ -1,7 +1,7 @@
 -- `walk::walk_row` meets its contract. The edges in the row decide of each column of the span; the first touched one and the run from it are all the touched tiles
 -- of the row.
 use Prim.Native.Nat.{ℕ, _*_, _+_}
-use mathlib.Core.Path.{_≡_, sym, ap, subst, _∙_}
+use mathlib.Core.Path.{ap, subst, _∙_}
 use native.Mathlib.Omega.{arith}
 use lib.ListN.{set, length-set}
 use Rattle.numbers.specs.Flag.{flagged, plains}

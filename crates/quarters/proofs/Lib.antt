@@ -1,0 +1,3 @@
+pub mod Touched
+pub mod Ones
+pub mod Mapped

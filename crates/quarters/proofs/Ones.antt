@@ -1,0 +1,200 @@
+-- How ones are written to a map: no tile, a row of a square's tiles after another, a quarter of a square after another.
+use mathlib.Core.Path.{_≡_, refl, sym, ap, subst, _∙_}
+use mathlib.Core.Logic.{_≢_, _⊎_, inl, inr, ⊎-elim}
+use mathlib.Core.List.{List}
+use Prim.Native.Nat.{ℕ, _+_, _-_, _*_, _/_, _%_, _^_, _≤_, _<_, max}
+use native.Mathlib.Nat.{mul-le-mul-left}
+use native.Mathlib.Omega.{arith}
+use lib.Pow.{pow-add}
+use lib.ListN.{length, getD, set, length-set}
+use lib.Seq.{getD-set-same, getD-set-other}
+use Rattle.numbers.proofs.Ceil.{lt-or-ge, eq-or-ne}
+use Rattle.screen.specs.declared.Screen.{Screen}
+use Rattle.screen.specs.Screen.{Allowed, columns, rows, tiles, columnOf, rowOf, tileAt}
+use Rattle.screen.proofs.Laws.{column-row, column<, row<, column-is, row-is, tile<}
+use Rattle.shape.specs.declared.Shape.{Shape}
+use Rattle.quarters.specs.declared.Square.{Square}
+use Rattle.quarters.specs.Square.{InSquare, TouchedIn, pastOf, quarterOf, Small}
+use Rattle.quarters.specs.Map.{BytesSet, WithOnes}
+
+-- ---- bytes, one after another
+
+pub bytes-none : {v from : ℕ} (old : List ℕ) → BytesSet v from from old old
+bytes-none old = record { size = refl; within = λ i l h. absurd (omega arith); under = λ i l. refl; over = λ i l h. refl }
+
+pub bytes-more : {v from to : ℕ} {old new : List ℕ} → from ≤ to → to < length old → BytesSet v from to old new → BytesSet v from (to + 1) old (set new to v)
+bytes-more {v} {from} {to} {old} {new} f l b =
+    record {
+      size = length-set new to v ∙ b .size;
+      within = λ i h k. ⊎-elim
+          (λ (e : i ≡ to). subst (λ (n : ℕ). getD (set new to v) n 0 ≡ v) (sym e) (getD-set-same new to v 0 (let s = b .size in omega arith)))
+          (λ (e : i ≢ to). getD-set-other new to i v 0 e ∙ b .within i h (omega arith))
+          (eq-or-ne i to);
+      under = λ i h. getD-set-other new to i v 0 (λ e. omega arith) ∙ b .under i h;
+      over = λ i h k. getD-set-other new to i v 0 (λ e. omega arith) ∙ b .over i h (omega arith);
+    }
+
+-- and no more where the end is reached, or lies before the start
+pub bytes-end : {v from i to : ℕ} {old new : List ℕ} → to ≤ i → i ≤ max from to → BytesSet v from i old new → BytesSet v from to old new
+bytes-end l h b = record { size = b .size; within = λ k f u. b .within k f (omega arith); under = b .under; over = λ k f u. b .over k f (omega arith) }
+
+-- ---- ones, one part after another
+
+pub ones-none : {P : ℕ → Type 0} {old : List ℕ} → ((t : ℕ) → P t → ⊥) → WithOnes P old old
+ones-none n = record { size = refl; ones = λ t p. absurd (n t p); kept = λ t e. e; rest = λ t m. refl }
+
+pub ones-then : {P Q : ℕ → Type 0} {a b c : List ℕ} → WithOnes P a b → WithOnes Q b c → WithOnes (λ t. P t ⊎ Q t) a c
+ones-then f g =
+    record {
+      size = g .size ∙ f .size;
+      ones = λ t h. ⊎-elim (λ p. g .kept t (f .ones t p)) (λ q. g .ones t q) h;
+      kept = λ t e. g .kept t (f .kept t e);
+      rest = λ t n. g .rest t (λ q. n (inr q)) ∙ f .rest t (λ p. n (inl p));
+    }
+
+pub ones-iff : {P Q : ℕ → Type 0} {a b : List ℕ} → ((t : ℕ) → P t → Q t) → ((t : ℕ) → Q t → P t) → WithOnes P a b → WithOnes Q a b
+ones-iff to from f = record { size = f .size; ones = λ t q. f .ones t (from t q); kept = f .kept; rest = λ t n. f .rest t (λ p. n (to t p)) }
+
+-- bytes that are set to 1
+ones-of-bytes : {from to : ℕ} {a b : List ℕ} → BytesSet 1 from to a b → WithOnes (λ t. (from ≤ t) × (t < to)) a b
+ones-of-bytes {from} {to} s =
+    record {
+      size = s .size;
+      ones = λ t h. s .within t (h .0) (h .1);
+      kept = λ t e. ⊎-elim
+          (λ (u : t < from). s .under t u ∙ e)
+          (λ (u : from ≤ t). ⊎-elim (λ (v : t < to). s .within t u v) (λ (v : to ≤ t). s .over t u v ∙ e) (lt-or-ge t to))
+          (lt-or-ge t from);
+      rest = λ t n. ⊎-elim
+          (λ (u : t < from). s .under t u)
+          (λ (u : from ≤ t). ⊎-elim (λ (v : t < to). absurd (n (u, v))) (λ (v : to ≤ t). s .over t u v) (lt-or-ge t to))
+          (lt-or-ge t from);
+    }
+
+-- ---- the tiles of a square, row by row
+
+-- those before a row
+abbrev pub RowsBefore : Screen → Square → (row : ℕ) → ℕ → Type 0
+RowsBefore d q row t = InSquare d q t × (rowOf d t < row)
+
+module _ (d : Screen) (a : Allowed d) (q : Square) where
+  -- the tiles of a row are among those of the screen
+  pub row-room : {row : ℕ} → row < rows d → row * columns d + columns d ≤ tiles d
+  row-room {row} h = let w : columns d * (row + 1) ≤ columns d * rows d = mul-le-mul-left (columns d) (omega arith) in omega arith
+
+  abbrev past : ℕ
+  past = pastOf (columns d) (q .column) (q .exponent)
+
+  abbrev end : ℕ
+  end = pastOf (rows d) (q .row) (q .exponent)
+
+  module _ (row : ℕ) (r≥ : q .row ≤ row) (r< : row < end) where
+    -- the numbers of a row's tiles
+    abbrev OfRow : ℕ → Type 0
+    OfRow t = (row * columns d + q .column ≤ t) × (t < row * columns d + past)
+
+    tile-of-row : (t : ℕ) → OfRow t → RowsBefore d q (row + 1) t
+    tile-of-row t h =
+        let c : ℕ = t - row * columns d in
+        let f = h .0 in
+        let l = h .1 in
+        let c< : c < columns d = omega arith in
+        let e : tileAt d c row ≡ t = omega arith in
+        let ec : columnOf d t ≡ c = subst (λ (k : ℕ). columnOf d k ≡ c) e (column-is d a c row c<) in
+        let er : rowOf d t ≡ row = subst (λ (k : ℕ). rowOf d k ≡ row) e (row-is d a c row c<) in
+        let g : tileAt d c row < columns d * rows d = tile< d a c< (omega arith) in
+        (record { on-grid = omega arith; column≥ = omega arith; column< = omega arith; row≥ = omega arith; row< = omega arith }, omega arith)
+
+    row-of-tile : (t : ℕ) → InSquare d q t → rowOf d t ≡ row → OfRow t
+    row-of-tile t h e =
+        let n : row * columns d + columnOf d t ≡ t = ap (λ (k : ℕ). k * columns d + columnOf d t) (sym e) ∙ column-row d a t in
+        let c = column< d a t in
+        (omega arith, omega arith)
+
+    pub row-more : {m n o : List ℕ} → WithOnes (RowsBefore d q row) m n → BytesSet 1 (row * columns d + q .column) (row * columns d + past) n o
+        → WithOnes (RowsBefore d q (row + 1)) m o
+    row-more w b = ones-iff to from (ones-then w (ones-of-bytes b))
+      where
+        to : (t : ℕ) → RowsBefore d q row t ⊎ OfRow t → RowsBefore d q (row + 1) t
+        to t (inl h) = let l = h .1 in (h .0, omega arith)
+        to t (inr h) = tile-of-row t h
+
+        from : (t : ℕ) → RowsBefore d q (row + 1) t → RowsBefore d q row t ⊎ OfRow t
+        from t h = let l = h .1 in ⊎-elim (λ (k : rowOf d t < row). inl (h .0, k)) (λ (k : row ≤ rowOf d t). inr (row-of-tile t (h .0) (omega arith))) (lt-or-ge (rowOf d t) row)
+
+  pub no-row : (m : List ℕ) → WithOnes (RowsBefore d q (q .row)) m m
+  no-row m = ones-none (λ t h. let w = h .0 in let l = h .1 in omega arith)
+
+  pub all-rows : {row : ℕ} → end ≤ row → {m n : List ℕ} → WithOnes (RowsBefore d q row) m n → WithOnes (InSquare d q) m n
+  all-rows {row} l = ones-iff (λ t h. h .0) (λ t h. let r = row< d a t (h .on-grid) in (h, omega arith))
+
+-- ---- the four quarters of a square
+
+-- a bit times a number
+bit : (b h : ℕ) → b ≤ 1 → ((b ≡ 0) × (b * h ≡ 0)) ⊎ ((b ≡ 1) × (b * h ≡ h))
+bit b h l = ⊎-elim (λ (e : b ≡ 0). inl (e, ap (λ (n : ℕ). n * h) e ∙ omega arith)) (λ (n : b ≢ 0). let e : b ≡ 1 = omega arith in inr (e, ap (λ (n : ℕ). n * h) e ∙ omega arith)) (eq-or-ne b 0)
+
+pub bit≤ : (b h : ℕ) → b ≤ 1 → b * h ≤ h
+bit≤ b h l = ⊎-elim (λ w. let e = w .1 in omega arith) (λ w. let e = w .1 in omega arith) (bit b h l)
+
+-- the touched tiles of the quarters before quarter k
+abbrev pub QuartersBefore : Screen → Shape → Square → (k : ℕ) → ℕ → Type 0
+QuartersBefore d shape q k t = (j : ℕ) × (j < k) × TouchedIn d shape (quarterOf q j) t
+
+module _ (d : Screen) (shape : Shape) (q : Square) where
+  pub no-quarter : (m : List ℕ) → WithOnes (QuartersBefore d shape q 0) m m
+  no-quarter m = ones-none (λ t g. let l = g .1 in omega arith)
+
+  pub quarter-more : {k : ℕ} {m o p : List ℕ} → WithOnes (QuartersBefore d shape q k) m o → WithOnes (TouchedIn d shape (quarterOf q k)) o p
+      → WithOnes (QuartersBefore d shape q (k + 1)) m p
+  quarter-more {k} w v = ones-iff to from (ones-then w v)
+    where
+      to : (t : ℕ) → QuartersBefore d shape q k t ⊎ TouchedIn d shape (quarterOf q k) t → QuartersBefore d shape q (k + 1) t
+      to t (inl (j, l, g)) = (j, omega arith, g)
+      to t (inr g) = (k, omega arith, g)
+
+      from : (t : ℕ) → QuartersBefore d shape q (k + 1) t → QuartersBefore d shape q k t ⊎ TouchedIn d shape (quarterOf q k) t
+      from t (j, l, g) =
+          ⊎-elim (λ (e : j ≡ k). inr (subst (λ (i : ℕ). TouchedIn d shape (quarterOf q i) t) e g)) (λ (e : j ≢ k). inl (j, omega arith, g)) (eq-or-ne j k)
+
+module _ (q : Square) (n : 0 < q .exponent) where
+  abbrev h : ℕ
+  h = 2 ^ (q .exponent - 1)
+
+  halves : 2 ^ q .exponent ≡ h + h
+  halves = let e : q .exponent ≡ q .exponent - 1 + 1 = omega arith in ap (λ (k : ℕ). 2 ^ k) e ∙ pow-add 2 (q .exponent - 1) 1 ∙ omega arith
+
+  -- a quarter is as small as the square
+  pub small-quarter : Small q → {k : ℕ} → k < 4 → Small (quarterOf q k)
+  small-quarter s {k} l =
+      let w = halves in
+      let x = bit≤ (k % 2) h (omega arith) in
+      let y = bit≤ (k / 2) h (omega arith) in
+      record { exponent = let e = s .exponent in omega arith; column = let c = s .column in omega arith; row = let r = s .row in omega arith }
+
+  module _ (d : Screen) (shape : Shape) where
+    part : (t j : ℕ) → j < 4 → TouchedIn d shape (quarterOf q j) t → TouchedIn d shape q t
+    part t j l g =
+        let w = halves in
+        let x = bit≤ (j % 2) h (omega arith) in
+        let y = bit≤ (j / 2) h (omega arith) in
+        let i = g .0 in
+        (record { on-grid = i .on-grid; column≥ = omega arith; column< = omega arith; row≥ = omega arith; row< = omega arith }, g .1)
+
+    parts : (t : ℕ) → TouchedIn d shape q t → QuartersBefore d shape q 4 t
+    parts t g =
+        let w = halves in
+        let i = g .0 in
+        ⊎-elim
+        (λ (x : columnOf d t < q .column + h). ⊎-elim
+        (λ (y : rowOf d t < q .row + h). (0, omega arith, (record { on-grid = i .on-grid; column≥ = omega arith; column< = omega arith; row≥ = omega arith; row< = omega arith }, g .1)))
+        (λ (y : q .row + h ≤ rowOf d t). (2, omega arith, (record { on-grid = i .on-grid; column≥ = omega arith; column< = omega arith; row≥ = omega arith; row< = omega arith }, g .1)))
+        (lt-or-ge (rowOf d t) (q .row + h)))
+        (λ (x : q .column + h ≤ columnOf d t). ⊎-elim
+        (λ (y : rowOf d t < q .row + h). (1, omega arith, (record { on-grid = i .on-grid; column≥ = omega arith; column< = omega arith; row≥ = omega arith; row< = omega arith }, g .1)))
+        (λ (y : q .row + h ≤ rowOf d t). (3, omega arith, (record { on-grid = i .on-grid; column≥ = omega arith; column< = omega arith; row≥ = omega arith; row< = omega arith }, g .1)))
+        (lt-or-ge (rowOf d t) (q .row + h)))
+        (lt-or-ge (columnOf d t) (q .column + h))
+
+    pub all-quarters : {m o : List ℕ} → WithOnes (QuartersBefore d shape q 4) m o → WithOnes (TouchedIn d shape q) m o
+    all-quarters = ones-iff (λ t g. part t (g .0) (g .1) (g .2)) parts

@@ -23,6 +23,7 @@ ghost use Rattle.audit.specs.Answer.{HeaderOf};
 ghost use Rattle.calls.specs.Tables.{AuditSays, refusedBin, PlaceSays, CauseSays, BinSays, BinPixelsSays, notFound, ReadSays, HighWaterSays, ReleaseSays};
 ghost use Prim.Native.Nat.{_≤_, _<_};
 ghost use lib.ListN.{length};
+ghost use Rattle.quarters.specs.Map.{MapSays};
 ghost use Rattle.shapes.specs.Shapes.{RightList, countOf};
 ghost use Rattle.calls.specs.BinList.{idFrom, BinNumber, AllBinned, BinListSays};
 ghost use Rattle.calls.specs.Questions.{QuestionSays, notAsked, BoxSays, CornerSays};
@@ -426,4 +427,12 @@ pub fn overlaps(list: &[i32], screen: Screen) -> Counted
     };
     let totals = overlaps::totals_of(screen, list, count);
     Counted { number: 0, totals }
+}
+
+// Writes the map of a whole-number shape, a byte for each tile, 1 where the shape touches it and 0 elsewhere; bytes past the tiles stay: 0, or 1, 7, 11 in that
+// order, with no byte written.
+pub fn map(screen: Screen, shape: Shape, map: &mut [u8]) -> u32
+    ensures { λ r. ⌜ MapSays screen shape (now (map .entry)) r (now (map .exit)) ⌝ }
+{
+    quarters::map(screen, shape, map)
 }

@@ -11,6 +11,7 @@ ghost use mathlib.Core.Path.{_≡_};
 ghost use Rattle.pool.specs.Words.{edition, second};
 ghost use Rattle.pool.specs.Opening.{OpenSays};
 ghost use Rattle.shape.specs.declared.Shape.the-variants.{Point, Line, Triangle};
+ghost use Rattle.quarters.specs.Map.{MapSays};
 ghost use Rattle.calls.specs.Tables.{AuditSays, BinSays, BinPixelsSays, ReadSays, HighWaterSays, ReleaseSays};
 ghost use Rattle.calls.specs.BinList.{BinListSays};
 ghost use Rattle.calls.specs.Questions.{BoxSays, CornerSays};
@@ -509,4 +510,71 @@ pub extern "C" fn flourscoop_overlaps(
     *largest = told.largest;
     *place = told.place;
     answer.number
+}
+
+// Writes the map of a point in units, a byte for each tile, 1 where it is touched: 0, or 1, 7, 11 in that order.
+#[no_mangle]
+pub extern "C" fn flourscoop_map_point(
+    width: u32,
+    height: u32,
+    s: u32,
+    x1: i32,
+    y1: i32,
+    map: &mut [u8],
+) -> u32
+    ensures { λ r. ⌜ MapSays (screen width height s) (Point (vertex x1 y1)) (now (map .entry)) r (now (map .exit)) ⌝ }
+{
+    calls::map(
+        Screen { width, height, s },
+        Shape::Point(Vertex { x: x1, y: y1 }),
+        map,
+    )
+}
+
+// Writes the map of a line in units, a byte for each tile, 1 where it is touched: 0, or 1, 7, 11 in that order.
+#[no_mangle]
+pub extern "C" fn flourscoop_map_line(
+    width: u32,
+    height: u32,
+    s: u32,
+    x1: i32,
+    y1: i32,
+    x2: i32,
+    y2: i32,
+    map: &mut [u8],
+) -> u32
+    ensures { λ r. ⌜ MapSays (screen width height s) (Line (vertex x1 y1) (vertex x2 y2)) (now (map .entry)) r (now (map .exit)) ⌝ }
+{
+    calls::map(
+        Screen { width, height, s },
+        Shape::Line(Vertex { x: x1, y: y1 }, Vertex { x: x2, y: y2 }),
+        map,
+    )
+}
+
+// Writes the map of a triangle in units, a byte for each tile, 1 where it is touched: 0, or 1, 7, 11 in that order.
+#[no_mangle]
+pub extern "C" fn flourscoop_map_triangle(
+    width: u32,
+    height: u32,
+    s: u32,
+    x1: i32,
+    y1: i32,
+    x2: i32,
+    y2: i32,
+    x3: i32,
+    y3: i32,
+    map: &mut [u8],
+) -> u32
+    ensures { λ r. ⌜ MapSays (screen width height s) (Triangle (vertex x1 y1) (vertex x2 y2) (vertex x3 y3)) (now (map .entry)) r (now (map .exit)) ⌝ }
+{
+    calls::map(
+        Screen { width, height, s },
+        Shape::Triangle(
+            Vertex { x: x1, y: y1 },
+            Vertex { x: x2, y: y2 },
+            Vertex { x: x3, y: y3 },
+        ),
+        map,
+    )
 }

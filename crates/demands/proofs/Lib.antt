@@ -17,3 +17,4 @@ pub mod Editions
 pub mod BinList
 pub mod Flags
 pub mod Price
+pub mod Map

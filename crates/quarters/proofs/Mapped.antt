@@ -11,7 +11,7 @@ use lib.Seq.{ext-getD}
 use Rattle.numbers.specs.Says.{Says}
 use Rattle.numbers.proofs.Ceil.{lt-or-ge}
 use Rattle.screen.specs.declared.Screen.{Screen}
-use Rattle.screen.specs.Screen.{Allowed, columns, rows, tiles}
+use Rattle.screen.specs.Screen.{Allowed, tiles}
 use Rattle.screen.specs.Rectangle.{rectangle}
 use Rattle.screen.proofs.Laws.{rectangle-proper, column<, row<}
 use Rattle.shape.specs.declared.Shape.{Shape}
@@ -20,7 +20,7 @@ use Rattle.touch.proofs.Answers.{corner, corner-says-touching}
 use Rattle.walk.specs.Touched.{TouchedTiles}
 use Rattle.quarters.specs.declared.Square.{Square}
 use Rattle.quarters.specs.Square.{TouchedIn, HoldsGrid}
-use Rattle.quarters.specs.Map.{Mapped, MapSays, BytesSet, WithOnes}
+use Rattle.quarters.specs.Map.{Mapped, BytesSet, WithOnes}
 
 module _ (d : Screen) (a : Allowed d) (shape : Shape) where
   pub mapped : {q : Square} {old mid new : List ℕ} → HoldsGrid d q → BytesSet 0 0 (tiles d) old mid → WithOnes (TouchedIn d shape q) mid new → Mapped d shape old new
@@ -44,7 +44,7 @@ module _ (d : Screen) (a : Allowed d) (shape : Shape) where
       }
 
   -- touching a tile is decided
-  decided : (t : ℕ) → t < tiles d → Touches shape (rectangle d t) ⊎ (Touches shape (rectangle d t) → ⊥)
+  pub decided : (t : ℕ) → t < tiles d → Touches shape (rectangle d t) ⊎ (Touches shape (rectangle d t) → ⊥)
   decided t l = answer (corner shape (rectangle d t)) (corner-says-touching shape (rectangle d t) (rectangle-proper d a (column< d a t) (row< d a t l)))
     where
       answer : (r : Bool) → Says r (Touches shape (rectangle d t)) → Touches shape (rectangle d t) ⊎ (Touches shape (rectangle d t) → ⊥)

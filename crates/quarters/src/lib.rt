@@ -181,7 +181,13 @@ fn map_touched(screen: Screen, shape: Shape, map: &mut [u8])
     set_bytes(map, 0, wide(screen::tiles_of(screen)), 0);
     let vertices = touch::three_of(shape);
     let around = touch::bounds_of(vertices);
-    fill(screen, around, touch::edges_of(vertices), square_of(screen), map);
+    fill(
+        screen,
+        around,
+        touch::edges_of(vertices),
+        square_of(screen),
+        map,
+    );
 }
 
 // Writes the map of a whole-number shape: 0, or 1 for the screen, 7 for the shape, 11 for a map with fewer bytes than the screen has tiles, in that order, with

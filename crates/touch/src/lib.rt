@@ -206,6 +206,14 @@ pub fn row_edges(edges: Edges, top: i64, bottom: i64) -> RowEdges
     }
 }
 
+// The three edges of the shape, in the row of the rectangle.
+fn edges_in(shape: Shape, rectangle: Rectangle) -> RowEdges
+    requires { ⌜ (InRange shape) × (Proper rectangle) ⌝ }
+    ensures { λ r. ⌜ r ≡ rowEdges (edgesOf (three shape)) (rectangle .top) (rectangle .bottom) ⌝ }
+{
+    row_edges(edges_of(three_of(shape)), rectangle.top, rectangle.bottom)
+}
+
 // The lesser of two edge values.
 fn lesser(x: i64, y: i64) -> i64
     ensures { λ r. ⌜ r ≡ lesser x y ⌝ }
@@ -331,26 +339,30 @@ fn cover_by_corners(edges: RowEdges, left: i64, right: i64) -> Cover
     }
 }
 
-// How the shape of the edges, whose bounding box is around, covers the rectangle, by the signs at its four corners.
+// How the shape covers the rectangle, by the signs at its four corners.
+pub fn corner_cover(shape: Shape, rectangle: Rectangle) -> Cover
+    requires { ⌜ (InRange shape) × (Proper rectangle) × (HasArea rectangle) ⌝ }
+    ensures { λ r. ⌜ CoverSays r shape rectangle ⌝ }
+{
+    if box_touches(shape, rectangle) {
+        let edges = edges_in(shape, rectangle);
+        cover_by_corners(edges, rectangle.left, rectangle.right)
+    } else {
+        Cover::Apart
+    }
+}
+
+// How the shape of the edges, whose bounding box is around, covers the rectangle, as `corner_cover` says it of a shape.
 pub fn outline_cover(around: Bounds, edges: Edges, rectangle: Rectangle) -> Cover
     requires { ⌜ (Outline edges) × (around ≡ bounds (starts edges)) × (Proper rectangle) × (HasArea rectangle) ⌝ }
     ensures { λ r. ⌜ CoverSays r (triangle (starts edges)) rectangle ⌝ }
 {
     if overlap(around, rectangle) {
         let in_row = row_edges(edges, rectangle.top, rectangle.bottom);
-        cover_by_corners(in_row, rectangle.left, rectangle.right)
+        cover_at(in_row, rectangle.left, rectangle.right)
     } else {
         Cover::Apart
     }
-}
-
-// How the shape covers the rectangle.
-pub fn corner_cover(shape: Shape, rectangle: Rectangle) -> Cover
-    requires { ⌜ (InRange shape) × (Proper rectangle) × (HasArea rectangle) ⌝ }
-    ensures { λ r. ⌜ CoverSays r shape rectangle ⌝ }
-{
-    let vertices = three_of(shape);
-    outline_cover(bounds_of(vertices), edges_of(vertices), rectangle)
 }
 
 // Whether an answer is not apart.

@@ -1,5 +1,5 @@
 -- `quarters::map_touched` meets its contract: over zeros, the square that holds the grid gets ones where the shape, as the triangle of its vertices, touches.
-use mathlib.Core.Path.{_≡_, sym, ap, subst, _∙_}
+use mathlib.Core.Path.{sym, ap, subst, _∙_}
 use Prim.Native.Nat.{ℕ}
 use native.Mathlib.Omega.{arith}
 use Rattle.shape.specs.declared.Shape.{Shape}

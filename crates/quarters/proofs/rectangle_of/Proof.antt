@@ -1,11 +1,11 @@
 -- `quarters::rectangle_of` meets its contract: the square's last column and row on the grid are the ones before its past ones.
-use mathlib.Core.Path.{_≡_, sym, ap, _∙_}
+use mathlib.Core.Path.{ap, _∙_}
 use Prim.Native.Nat.{ℕ, _-_}
 use native.Mathlib.Omega.{arith}
 use mir.Syntax.{w64}
 use lib.Pow.{pow-pos}
 use Rattle.numbers.proofs.Is.{is-call}
-use Rattle.screen.specs.Rectangle.{near, far}
+use Rattle.screen.specs.Rectangle.{far}
 use Rattle.screen.proofs.Sizes.{across≤}
 use Rattle.quarters.specs.Square.{pastOf}
 use borrow.Author.Needs.{needs}

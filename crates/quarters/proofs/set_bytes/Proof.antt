@@ -1,6 +1,5 @@
 -- `quarters::set_bytes` meets its contract: the bytes from the start on and before i are set.
-use mathlib.Core.Path.{_≡_}
-use Prim.Native.Nat.{ℕ, _-_, _≤_, max}
+use Prim.Native.Nat.{_-_, _≤_, max}
 use native.Mathlib.Omega.{arith}
 use borrow.Author.Needs.{needs}
 use Rattle.quarters.specs.Map.{BytesSet}

@@ -1,5 +1,5 @@
 -- `quarters::set_row` meets its contract: the bytes of the row's tiles are those of their numbers.
-use mathlib.Core.Path.{_≡_, ap, subst, _∙_}
+use mathlib.Core.Path.{ap, subst, _∙_}
 use Prim.Native.Nat.{ℕ, _+_, _*_, _≤_}
 use native.Mathlib.Omega.{arith}
 use Rattle.screen.specs.Screen.{tiles}

@@ -1,7 +1,6 @@
 -- `quarters::set_tiles` meets its contract: the bytes of the square's rows before `row` are written.
 use Prim.Native.Nat.{_-_, _≤_}
 use native.Mathlib.Omega.{arith}
-use Rattle.screen.proofs.Sizes.{across≤}
 use Rattle.quarters.specs.Map.{WithOnes}
 use Rattle.quarters.proofs.Ones.{RowsBefore, row-more, no-row, all-rows}
 use borrow.Author.Needs.{needs}

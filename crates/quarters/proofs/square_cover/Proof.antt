@@ -1,5 +1,5 @@
 -- `quarters::square_cover` meets its contract: off the grid there is no tile to touch, and on it the test of the square's rectangle says of its tiles what is wanted.
-use mathlib.Core.Path.{_≡_, sym, subst}
+use mathlib.Core.Path.{sym, subst}
 use native.Mathlib.Omega.{arith}
 use Rattle.screen.specs.declared.Rectangle.{Rectangle}
 use Rattle.screen.specs.Rectangle.{Proper, HasArea}

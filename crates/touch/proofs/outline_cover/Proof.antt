@@ -28,8 +28,8 @@ row-edges-requires c κs =
       subst (Within 524288) (sym (kept-is w64 (q .bottom) (g .1 .1 .1 .0 .1))) (bottom-within ok),
     )
 
-cover-by-corners-requires : tie.Need-cover-by-corners-requires
-cover-by-corners-requires c κs =
+cover-at-requires : tie.Need-cover-at-requires
+cover-at-requires c κs =
     let s = c .before .before .before .before .before .before .before in
     let q = s .args .rectangle in
     let ok = s .pre .2 in
@@ -47,10 +47,10 @@ returns c =
     let g = c .before .struct-told4 .given in
     let box = c .before .before .before .before .before .before .before .overlap .ensures .yes (c .before .before .before .before .before .before .if1 .taken) in
     let row = c .before .before .before .row-edges .ensures ∙ (λ i. rowEdges (s .args .edges) (kept-is w64 (q .top) (g .1 .1 .0 .1) i) (kept-is w64 (q .bottom) (g .1 .1 .1 .0 .1) i)) in
-    outline-cover-at-says (s .pre .0) (s .pre .2) (s .pre .3) (subst (λ (p : Bounds). Overlap p q) (s .pre .1) box) (c .cover-by-corners .result)
+    outline-cover-at-says (s .pre .0) (s .pre .2) (s .pre .3) (subst (λ (p : Bounds). Overlap p q) (s .pre .1) box) (c .cover-at .result)
     (subst (λ (P : Type 0). P)
-    (λ i. CoverAt (c .cover-by-corners .result) (row i) (kept-is w64 (q .left) (g .0 .1) i) (kept-is w64 (q .right) (g .1 .0 .1) i))
-    (c .cover-by-corners .ensures))
+    (λ i. CoverAt (c .cover-at .result) (row i) (kept-is w64 (q .left) (g .0 .1) i) (kept-is w64 (q .right) (g .1 .0 .1) i))
+    (c .cover-at .ensures))
 
 returns-2 : tie.Need-returns-2
 returns-2 c =
@@ -60,4 +60,4 @@ returns-2 c =
 
 pub outline-cover-spec : {M : Type 1} → statement M
 outline-cover-spec =
-    tie.close (tie.spec overlap-requires row-edges-requires cover-by-corners-requires returns returns-2)
+    tie.close (tie.spec overlap-requires row-edges-requires cover-at-requires returns returns-2)

@@ -1,6 +1,6 @@
 /* Every call by include/flourscoop.h, from C or C++: document 01's pool case, one answer and one refusal of each, marks, and
    the blocks that they ask for, tiles wholly covered, walks with their tests, and draw calls, all in both editions; tiles
-   that the screen cuts; lists of shapes; the header's rooms, texts and version. */
+   that the screen cuts; maps; lists of shapes; the header's rooms, texts and version. */
 #include <float.h>
 #include <math.h>
 #include <stdio.h>
@@ -677,6 +677,104 @@ static void ends(void)
            FLOURSCOOP_DONE, 0, 0);
 }
 
+/* The bytes of the header's maps, and those lent for one, with bytes on either side that are not lent. */
+enum { MAP_BYTES = FLOURSCOOP_ACROSS(WIDTH, S) * FLOURSCOOP_ACROSS(HEIGHT, S), BESIDE = 5 };
+static uint8_t lent[BESIDE + 4096 + BESIDE], lent_before[BESIDE + 4096 + BESIDE];
+
+/* Makes the map of a shape of seven words. */
+static uint32_t map_of(uint32_t width, uint32_t height, uint32_t s, const int32_t *shape, uint8_t *map, size_t bytes)
+{
+    const int32_t *v = shape + 1;
+    switch (shape[0]) {
+    case FLOURSCOOP_POINT: return flourscoop_map_point(width, height, s, v[0], v[1], map, bytes);
+    case FLOURSCOOP_LINE: return flourscoop_map_line(width, height, s, v[0], v[1], v[2], v[3], map, bytes);
+    default: return flourscoop_map_triangle(width, height, s, v[0], v[1], v[2], v[3], v[4], v[5], map, bytes);
+    }
+}
+
+/* Makes a map in so many bytes, all of them alike before it, and counts its number and its bytes, those wanted or none; all
+   other bytes should stay. */
+static void expect_map(const char *name, uint32_t width, uint32_t height, uint32_t s, const int32_t *shape, size_t bytes,
+                       uint8_t before, uint32_t wanted, const uint8_t *map, size_t tiles)
+{
+    memset(lent, before, sizeof lent);
+    memset(lent_before, before, sizeof lent_before);
+    if (map != NULL)
+        memcpy(lent_before + BESIDE, map, tiles);
+    expect(name, map_of(width, height, s, shape, bytes == 0 ? NULL : lent + BESIDE, bytes), wanted, 0, 0);
+    expect_that(memcmp(lent, lent_before, sizeof lent) == 0, name);
+}
+
+/* A map that should be refused, and write no byte. */
+static void expect_no_map(const char *name, uint32_t s, const int32_t *shape, size_t bytes, uint32_t wanted)
+{
+    expect_map(name, WIDTH, HEIGHT, s, shape, bytes, 0xAA, wanted, NULL, 0);
+}
+
+/* What refuses a map, alone and with the causes that come after it: each coordinate of a shape a unit out of range. */
+static void refused_maps(const int32_t *shape)
+{
+    for (size_t bytes = 0; bytes < MAP_BYTES; bytes++) {
+        expect_no_map("too few bytes", S, shape, bytes, FLOURSCOOP_BYTES);
+        expect_no_map("no screen and too few bytes", 7, shape, bytes, FLOURSCOOP_SCREEN);
+    }
+    expect_no_map("no screen", 2, shape, MAP_BYTES, FLOURSCOOP_SCREEN);
+    for (size_t at = 1; at <= 2 * (size_t)shape[0]; at++) {
+        int32_t far[FLOURSCOOP_SHAPE_WORDS];
+        memcpy(far, shape, sizeof far);
+        for (int end = 0; end < 2; end++) {
+            far[at] = end == 0 ? -262145 : 262144;
+            expect_no_map("out of range", S, far, MAP_BYTES, FLOURSCOOP_OUT_OF_RANGE);
+            expect_no_map("out of range and too few bytes", S, far, MAP_BYTES - 1, FLOURSCOOP_OUT_OF_RANGE);
+            expect_no_map("out of range and no bytes", S, far, 0, FLOURSCOOP_OUT_OF_RANGE);
+            expect_no_map("no screen and out of range", 7, far, MAP_BYTES, FLOURSCOOP_SCREEN);
+            expect_no_map("all three", 7, far, 0, FLOURSCOOP_SCREEN);
+        }
+    }
+}
+
+/* The maps of the header's examples, with bytes to spare and with none; those of the largest screens; and what is refused. */
+static void maps(void)
+{
+    static const struct {
+        int32_t shape[FLOURSCOOP_SHAPE_WORDS];
+        uint8_t map[MAP_BYTES];
+    } examples[] = {
+        {{FLOURSCOOP_TRIANGLE, 700, 0, 1024, 0, 1024, 300}, {0, 0, 1, 1, 0, 0, 0, 1}},
+        {{FLOURSCOOP_TRIANGLE, 10, 10, 1000, 200, 900, 500}, {1, 1, 1, 1, 0, 1, 1, 1}},
+        {{FLOURSCOOP_TRIANGLE, 0, 0, 1536, 0, 0, 1536}, {1, 1, 1, 1, 1, 1, 1, 1}},
+        {{FLOURSCOOP_LINE, 300, 500, 1000, 10, 0, 0}, {0, 0, 1, 1, 0, 1, 1, 0}},
+        {{FLOURSCOOP_POINT, 256, 256, 0, 0, 0, 0}, {1, 1, 0, 0, 1, 1, 0, 0}},
+        {{FLOURSCOOP_POINT, 1025, 10, 0, 0, 0, 0}, {0, 0, 0, 0, 0, 0, 0, 0}},
+    };
+    static const int32_t over_all[] = {FLOURSCOOP_TRIANGLE, -262144, -262144, 262143, -262144, 0, 262143};
+    static const int32_t along_the_top[] = {FLOURSCOOP_LINE, 0, 5, 65536, 5, 0, 0};
+    static const int32_t last_corner[] = {FLOURSCOOP_POINT, 65536, 65536, 0, 0, 0, 0};
+    static const int32_t past_60[] = {FLOURSCOOP_POINT, 1000, 10, 0, 0, 0, 0};
+    static const uint8_t before[] = {0, 1, 0x80, 0xFF};
+    static uint8_t ones[4096], none[4096];
+    for (size_t at = 0; at < sizeof examples / sizeof *examples; at++) {
+        for (size_t spare = 0; spare <= SPARE; spare++)
+            for (size_t k = 0; k < sizeof before; k++)
+                expect_map("a map", WIDTH, HEIGHT, S, examples[at].shape, MAP_BYTES + spare, before[k], FLOURSCOOP_DONE,
+                           examples[at].map, MAP_BYTES);
+        refused_maps(examples[at].shape);
+    }
+    memset(ones, 1, sizeof ones);
+    /* the screen ends inside its last tiles */
+    expect_map("60 by 28", 60, 28, S, over_all, MAP_BYTES, 9, FLOURSCOOP_DONE, ones, MAP_BYTES);
+    expect_map("past 60 by 28", 60, 28, S, past_60, MAP_BYTES, 9, FLOURSCOOP_DONE, none, MAP_BYTES);
+    expect_map("4,096 tiles", 4096, 4096, 6, over_all, 4096, 9, FLOURSCOOP_DONE, ones, 4096);
+    expect_map("512 by 8 tiles", 4096, 64, 3, over_all, 4096, 9, FLOURSCOOP_DONE, ones, 4096);
+    expect_map("4,095 bytes", 4096, 4096, 6, over_all, 4095, 9, FLOURSCOOP_BYTES, NULL, 0);
+    expect_map("too many tiles", 4096, 65, 3, over_all, 4096, 9, FLOURSCOOP_SCREEN, NULL, 0);
+    expect_map("a row of 512", 4096, 8, 3, along_the_top, 512, 9, FLOURSCOOP_DONE, ones, 512);
+    expect_map("a column of 512", 8, 4096, 3, over_all, 512, 9, FLOURSCOOP_DONE, ones, 512);
+    expect_map("off a row of 512", 4096, 8, 3, last_corner, 512, 9, FLOURSCOOP_DONE, none, 512);
+    none[4095] = 1;
+    expect_map("the last tile", 4096, 4096, 6, last_corner, 4096, 9, FLOURSCOOP_DONE, none, 4096);
+}
+
 /* Counts a call with the number and the totals that it should have given. */
 static void expect_totals(const char *name, const int32_t *list, size_t words, uint32_t s, uint32_t wanted,
                           const uint64_t *values)
@@ -822,6 +920,7 @@ int main(void)
     questions();
     covers();
     ends();
+    maps();
     lists_of_shapes();
     rooms();
     texts();

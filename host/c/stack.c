@@ -34,6 +34,7 @@ static const int32_t bins[] = {
 static uint8_t answers[3];
 static uint32_t counts[4];
 static uint64_t totals[3];
+static uint8_t map[4096];
 
 static void nothing(void) { number = FLOURSCOOP_DONE; }
 static void open_one(void) { number = flourscoop_open(one, WORDS_ONE, WIDTH, HEIGHT, S, BLOCKS); }
@@ -67,6 +68,25 @@ static void corner_line(void) { number = flourscoop_corner_line(WIDTH, HEIGHT, S
 static void corner_triangle(void)
 {
     number = flourscoop_corner_triangle(WIDTH, HEIGHT, S, 700, 0, 0, 12800, 0, 0, 7680, &value);
+}
+/* Maps on the same screen, and on a row of 512 tiles, since the square that holds that one is split most often. */
+static void map_point(void)
+{
+    number = flourscoop_map_point(WIDTH, HEIGHT, S, 256, 256, map, sizeof map);
+    if (number == FLOURSCOOP_DONE)
+        number = flourscoop_map_point(4096, 8, 3, 65535, 9, map, sizeof map);
+}
+static void map_line(void)
+{
+    number = flourscoop_map_line(WIDTH, HEIGHT, S, 0, 0, 12800, 7680, map, sizeof map);
+    if (number == FLOURSCOOP_DONE)
+        number = flourscoop_map_line(4096, 8, 3, 0, 9, 65536, 9, map, sizeof map);
+}
+static void map_triangle(void)
+{
+    number = flourscoop_map_triangle(WIDTH, HEIGHT, S, 0, 0, 12800, 0, 0, 7680, map, sizeof map);
+    if (number == FLOURSCOOP_DONE)
+        number = flourscoop_map_triangle(4096, 8, 3, 0, 9, 65536, 9, 0, 99, map, sizeof map);
 }
 static void overlaps(void)
 {
@@ -117,6 +137,9 @@ int main(void)
         {"corner_point", corner_point},
         {"corner_line", corner_line},
         {"corner_triangle", corner_triangle},
+        {"map_point", map_point},
+        {"map_line", map_line},
+        {"map_triangle", map_triangle},
         {"overlaps", overlaps},
     };
     size_t least = reach(nothing);

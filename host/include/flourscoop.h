@@ -1,13 +1,13 @@
 /*
  * Flourscoop: finds the tiles of a screen that points, lines and triangles touch, and keeps for each tile the list of
  * the ids of its shapes, each with whether the shape covers the tile wholly, in one pool of 32-bit words that the caller
- * lends. Link libflourscoop.a.
+ * lends. Or it tells the tiles of one shape in a map, a byte for each. Link libflourscoop.a.
  *
  * WHAT EVERY CALL KEEPS TO
  *   - Any argument is safe as long as each pointer is: nothing is assumed of the numbers or of the words in the pool.
  *   - It returns one of the numbers below. 0 means done; any other is a refusal. A refusal changes no word of the pool.
  *   - What a pointer at the end of the arguments names is always written: the value on 0, zero on a refusal. The answers to
- *     a list are not one value: they are written on 0 alone.
+ *     a list and the bytes of a map are not one value: they are written on 0 alone.
  *   - It always returns. It uses no heap, no global data and no operating system; of the C library it needs memset.
  *   - No call writes a word past the pool's room, and what stands there does not matter to any answer.
  *
@@ -16,20 +16,22 @@
  *                 0, pool may be null.
  *   list          likewise with words or list_words, of int32_t; it is only read.
  *   answers       likewise with answer_bytes, of bytes, at any address.
+ *   map           likewise with bytes, of bytes, at any address.
  *   the others    each to one uint32_t, int32_t or uint64_t, aligned as that is, a uint64_t to 8 bytes. Not null, not in the
  *                 pool or the list, no two the same.
  *   Pool, list and answers of a call do not overlap.
  *
  * THREADS AND INTERRUPTS
  *   Calls on different pools are independent and may run at the same time. Calls on one pool must not overlap; two calls
- *   of which each only audits, reads or asks for a mark may. Calls that take no pool may always run. Several calls may take
- *   one list of shapes, as long as nothing writes to that.
+ *   of which each only audits, reads or asks for a mark may. Calls that take no pool may always run, those that write a map
+ *   as long as nothing else reads or writes that map. Several calls may take one list of shapes, as long as nothing writes
+ *   to that.
  *
  * STACK, in bytes, as measured, on Arm in an emulator; of those of bin, bin_list and overlaps, 16,384 list the touched
- * tiles
- *               bin      bin_list   overlaps   audit   read    high_water   release   corner   box   open, open_two   unit
- *     x86-64    18,928   18,832     17,104     2,320   2,368   2,352        2,400     480      192   144              16
- *     Arm       18,864   18,800     17,072     2,288   2,320   2,304        2,304     288      160   128              32
+ * tiles; that of map is for a grid of 512 columns or rows, and less for a smaller one
+ *               bin     bin_list  overlaps  map    audit  read   high_water  release  corner  box  open, open_two  unit
+ *     x86-64    18,928  18,832    17,104    3,440  2,320  2,368  2,352       2,400    480     192  144             16
+ *     Arm       18,864  18,800    17,072    3,120  2,288  2,320  2,304       2,304    288     160  128             32
  *
  * SCREEN AND UNITS
  *   A screen has a width and a height of 1 to 4,096 pixels. A tile is a square of 2^s by 2^s pixels, s from 3 to 6, cut
@@ -152,6 +154,25 @@
  *     walk 3    1, 1024, 512, 0, 0, 0, 0          from 7: 6-; tests 1, tiles 1, rows 1
  *     walk 4    3, 0, -1, 1024, 0, 0, 512         off the screen: tests 0, tiles 7
  *
+ * MAPS
+ *   A map tells of one shape, without a pool, which tiles it touches: a byte for each tile, in the order of their numbers, 1
+ *   where the shape touches the tile, partly or wholly covered, and 0 elsewhere. These are the tiles in which a bin lists the
+ *   shape. A map needs FLOURSCOOP_ACROSS(width, s) * FLOURSCOOP_ACROSS(height, s) bytes; 4,096 do for every screen.
+ *   It is made by quarters. The smallest square of tiles, its side a power of two, that holds the grid is split into four, and
+ *   so is each of these, until single tiles are reached. A square means those of its tiles that are on the grid, each cut off
+ *   where the screen ends. Where there are none, or the shape touches none of them, the square is left out; where the shape
+ *   covers all of them wholly, it is filled without another test. So a triangle over the whole screen takes one test, that of
+ *   the first square, and a shape of few tiles some for each time that the square around them is split. The bytes do not tell
+ *   how they were found.
+ *
+ *   Examples, on a screen of 64 by 32 with s = 4, whose tiles are 0 to 3 and below them 4 to 7. Each has its eight bytes:
+ *     map 0    3, 700, 0, 1024, 0, 1024, 300      0 0 1 1 0 0 0 1
+ *     map 1    3, 10, 10, 1000, 200, 900, 500     1 1 1 1 0 1 1 1
+ *     map 2    3, 0, 0, 1536, 0, 0, 1536          1 1 1 1 1 1 1 1
+ *     map 3    2, 300, 500, 1000, 10, 0, 0        0 0 1 1 0 1 1 0
+ *     map 4    1, 256, 256, 0, 0, 0, 0            1 1 0 0 1 1 0 0
+ *     map 5    1, 1025, 10, 0, 0, 0, 0            0 0 0 0 0 0 0 0
+ *
  * HOW MANY BLOCKS
  *   The marks tell. Open a pool with blocks to spare, make the calls of a frame, and add up the blocks that the marks need:
  *     uint32_t tile, mark, blocks = 0, ids = (pool[6] == 8 ? 32 : pool[8]) - 1;
@@ -174,9 +195,9 @@ extern "C" {
 
 /* The version of this header, and of the archive that goes with it. */
 #define FLOURSCOOP_VERSION_MAJOR 0
-#define FLOURSCOOP_VERSION_MINOR 8
+#define FLOURSCOOP_VERSION_MINOR 9
 #define FLOURSCOOP_VERSION_PATCH 0
-#define FLOURSCOOP_VERSION "0.8.0"
+#define FLOURSCOOP_VERSION "0.9.0"
 
 /* The numbers; their texts follow. Where several causes apply, each call's comment has the order of looking for them. */
 #define FLOURSCOOP_DONE 0u
@@ -208,7 +229,7 @@ static inline const char *flourscoop_number_text(uint32_t number)
     case FLOURSCOOP_NO_ROOM: return "the shape needs more blocks than are free";
     case FLOURSCOOP_NO_TILE: return "there is no such tile";
     case FLOURSCOOP_NO_PLACE: return "the place is at or past the tile's number of entries";
-    case FLOURSCOOP_BYTES: return "there are fewer answer bytes than shapes";
+    case FLOURSCOOP_BYTES: return "there are fewer bytes than shapes in the list or tiles on the screen";
     case FLOURSCOOP_LIST: return "the list is too long or not of whole shapes, or a kind or an unused word is wrong";
     default: return "no call returns this number";
     }
@@ -361,6 +382,21 @@ uint32_t flourscoop_corner_line(uint32_t width, uint32_t height, uint32_t s, uin
 uint32_t flourscoop_corner_triangle(uint32_t width, uint32_t height, uint32_t s, uint32_t tile,
                                     int32_t x1, int32_t y1, int32_t x2, int32_t y2, int32_t x3, int32_t y3,
                                     uint32_t *cover);
+
+/*
+ * Writes the map of a shape, in units, on a screen: map[t] is 1 where the shape touches tile t and 0 where it does not,
+ * whatever stood there before. Bytes past the screen's tiles stay as they are.
+ * Returns 0; or 1, 7, 11, in this order, and then writes no byte.
+ */
+uint32_t flourscoop_map_point(uint32_t width, uint32_t height, uint32_t s,
+                              int32_t x1, int32_t y1,
+                              uint8_t *map, size_t bytes);
+uint32_t flourscoop_map_line(uint32_t width, uint32_t height, uint32_t s,
+                             int32_t x1, int32_t y1, int32_t x2, int32_t y2,
+                             uint8_t *map, size_t bytes);
+uint32_t flourscoop_map_triangle(uint32_t width, uint32_t height, uint32_t s,
+                                 int32_t x1, int32_t y1, int32_t x2, int32_t y2, int32_t x3, int32_t y3,
+                                 uint8_t *map, size_t bytes);
 
 /*
  * Counts the tiles of a screen that the shapes of a list overlap; made for each s, it tells a planner which to choose.

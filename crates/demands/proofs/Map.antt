@@ -78,10 +78,12 @@ map-agrees-with-the-bin p S shape id a q b z old new m t h =
     let d = screenOf p in
     let k = accepted-map m (omega arith) in
     let c = cover-exists d (k .0) shape t h in
-    ap length (demand-2-bin S b .listed z .lists t h (c .0) (c .1)) ∙ length-append (listIn p t) (gained (c .0) id) ∙ ap (λ (n : ℕ). length (listIn p t) + n) (as-said (c .0) (k .0) (k .1) (c .1))
+    ap length (demand-2-bin S b .listed z .lists t h (c .0) (c .1)) ∙ length-append (listIn p t) (gained (c .0) id)
+    ∙ ap (λ (n : ℕ). length (listIn p t) + n) (as-said (c .0) (k .0) (k .1) (c .1))
   where
     -- a tile gains an entry exactly if it is touched
-    as-said : (r : Cover) → Allowed (screenOf p) → Mapped (screenOf p) shape old new → CoverSays r shape (rectangle (screenOf p) t) → length (gained r id) ≡ getD new t 0
+    as-said : (r : Cover) → Allowed (screenOf p) → Mapped (screenOf p) shape old new → CoverSays r shape (rectangle (screenOf p) t)
+        → length (gained r id) ≡ getD new t 0
     as-said Apart s k n = sym (k .apart t h n)
     as-said Partly s k c = sym (k .touched t h (c .0))
     as-said Wholly s k w = sym (k .touched t h (wholly-touches (tile-proper (screenOf p) s t h) w))

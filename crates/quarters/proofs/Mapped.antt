@@ -23,7 +23,8 @@ use Rattle.quarters.specs.Square.{TouchedIn, HoldsGrid}
 use Rattle.quarters.specs.Map.{Mapped, BytesSet, WithOnes}
 
 module _ (d : Screen) (a : Allowed d) (shape : Shape) where
-  pub mapped : {q : Square} {old mid new : List ℕ} → HoldsGrid d q → BytesSet 0 0 (tiles d) old mid → WithOnes (TouchedIn d shape q) mid new → Mapped d shape old new
+  pub mapped : {q : Square} {old mid new : List ℕ} → HoldsGrid d q → BytesSet 0 0 (tiles d) old mid → WithOnes (TouchedIn d shape q) mid new
+      → Mapped d shape old new
   mapped g c f =
       let x = g .column in
       let y = g .row in

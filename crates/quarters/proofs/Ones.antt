@@ -3,7 +3,7 @@ use mathlib.Core.Path.{_≡_, refl, sym, ap, subst, _∙_}
 use mathlib.Core.Logic.{_≢_, _⊎_, inl, inr, ⊎-elim}
 use mathlib.Core.List.{List}
 use Prim.Native.Nat.{ℕ, _+_, _-_, _*_, _/_, _%_, _^_, _≤_, _<_, max}
-use native.Mathlib.Nat.{mul-le-mul-left}
+use native.Mathlib.Nat.{mul-le-mul-left, mul-le-mul-right}
 use native.Mathlib.Omega.{arith}
 use lib.Pow.{pow-add}
 use lib.ListN.{length, getD, set, length-set}
@@ -15,7 +15,7 @@ use Rattle.screen.proofs.Laws.{column-row, column<, row<, column-is, row-is, ti
 use Rattle.shape.specs.declared.Shape.{Shape}
 use Rattle.quarters.specs.declared.Square.{Square}
 use Rattle.quarters.specs.Square.{InSquare, TouchedIn, pastOf, quarterOf, Small}
-use Rattle.quarters.specs.Map.{BytesSet, WithOnes}
+use Rattle.quarters.specs.Map.{BytesSet, RowSet, WithOnes}
 
 -- ---- bytes, one after another
 
@@ -111,7 +111,7 @@ module _ (d : Screen) (a : Allowed d) (q : Square) where
         let c = column< d a t in
         (omega arith, omega arith)
 
-    pub row-more : {m n o : List ℕ} → WithOnes (RowsBefore d q row) m n → BytesSet 1 (row * columns d + q .column) (row * columns d + past) n o
+    pub row-more : {m n o : List ℕ} → WithOnes (RowsBefore d q row) m n → RowSet d q row n o
         → WithOnes (RowsBefore d q (row + 1)) m o
     row-more w b = ones-iff to from (ones-then w (ones-of-bytes b))
       where
@@ -120,7 +120,9 @@ module _ (d : Screen) (a : Allowed d) (q : Square) where
         to t (inr h) = tile-of-row t h
 
         from : (t : ℕ) → RowsBefore d q (row + 1) t → RowsBefore d q row t ⊎ OfRow t
-        from t h = let l = h .1 in ⊎-elim (λ (k : rowOf d t < row). inl (h .0, k)) (λ (k : row ≤ rowOf d t). inr (row-of-tile t (h .0) (omega arith))) (lt-or-ge (rowOf d t) row)
+        from t h =
+            let l = h .1 in
+            ⊎-elim (λ (k : rowOf d t < row). inl (h .0, k)) (λ (k : row ≤ rowOf d t). inr (row-of-tile t (h .0) (omega arith))) (lt-or-ge (rowOf d t) row)
 
   pub no-row : (m : List ℕ) → WithOnes (RowsBefore d q (q .row)) m m
   no-row m = ones-none (λ t h. let w = h .0 in let l = h .1 in omega arith)
@@ -130,12 +132,9 @@ module _ (d : Screen) (a : Allowed d) (q : Square) where
 
 -- ---- the four quarters of a square
 
--- a bit times a number
-bit : (b h : ℕ) → b ≤ 1 → ((b ≡ 0) × (b * h ≡ 0)) ⊎ ((b ≡ 1) × (b * h ≡ h))
-bit b h l = ⊎-elim (λ (e : b ≡ 0). inl (e, ap (λ (n : ℕ). n * h) e ∙ omega arith)) (λ (n : b ≢ 0). let e : b ≡ 1 = omega arith in inr (e, ap (λ (n : ℕ). n * h) e ∙ omega arith)) (eq-or-ne b 0)
-
+-- a bit times a number is at most the number
 pub bit≤ : (b h : ℕ) → b ≤ 1 → b * h ≤ h
-bit≤ b h l = ⊎-elim (λ w. let e = w .1 in omega arith) (λ w. let e = w .1 in omega arith) (bit b h l)
+bit≤ b h l = let w : b * h ≤ 1 * h = mul-le-mul-right h l in omega arith
 
 -- the touched tiles of the quarters before quarter k
 abbrev pub QuartersBefore : Screen → Shape → Square → (k : ℕ) → ℕ → Type 0
@@ -187,14 +186,19 @@ module _ (q : Square) (n : 0 < q .exponent) where
         let i = g .0 in
         ⊎-elim
         (λ (x : columnOf d t < q .column + h). ⊎-elim
-        (λ (y : rowOf d t < q .row + h). (0, omega arith, (record { on-grid = i .on-grid; column≥ = omega arith; column< = omega arith; row≥ = omega arith; row< = omega arith }, g .1)))
-        (λ (y : q .row + h ≤ rowOf d t). (2, omega arith, (record { on-grid = i .on-grid; column≥ = omega arith; column< = omega arith; row≥ = omega arith; row< = omega arith }, g .1)))
+        (λ (y : rowOf d t < q .row + h). at 0 (omega arith) (omega arith, omega arith) (omega arith, omega arith))
+        (λ (y : q .row + h ≤ rowOf d t). at 2 (omega arith) (omega arith, omega arith) (omega arith, omega arith))
         (lt-or-ge (rowOf d t) (q .row + h)))
         (λ (x : q .column + h ≤ columnOf d t). ⊎-elim
-        (λ (y : rowOf d t < q .row + h). (1, omega arith, (record { on-grid = i .on-grid; column≥ = omega arith; column< = omega arith; row≥ = omega arith; row< = omega arith }, g .1)))
-        (λ (y : q .row + h ≤ rowOf d t). (3, omega arith, (record { on-grid = i .on-grid; column≥ = omega arith; column< = omega arith; row≥ = omega arith; row< = omega arith }, g .1)))
+        (λ (y : rowOf d t < q .row + h). at 1 (omega arith) (omega arith, omega arith) (omega arith, omega arith))
+        (λ (y : q .row + h ≤ rowOf d t). at 3 (omega arith) (omega arith, omega arith) (omega arith, omega arith))
         (lt-or-ge (rowOf d t) (q .row + h)))
         (lt-or-ge (columnOf d t) (q .column + h))
+      where
+        -- the tile stands in quarter k
+        at : (k : ℕ) → k < 4 → (q .column + k % 2 * h ≤ columnOf d t) × (columnOf d t < q .column + k % 2 * h + h)
+            → (q .row + k / 2 * h ≤ rowOf d t) × (rowOf d t < q .row + k / 2 * h + h) → QuartersBefore d shape q 4 t
+        at k l x y = (k, l, (record { on-grid = g .0 .on-grid; column≥ = x .0; column< = x .1; row≥ = y .0; row< = y .1 }, g .1))
 
     pub all-quarters : {m o : List ℕ} → WithOnes (QuartersBefore d shape q 4) m o → WithOnes (TouchedIn d shape q) m o
     all-quarters = ones-iff (λ t g. part t (g .0) (g .1) (g .2)) parts

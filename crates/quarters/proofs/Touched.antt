@@ -1,5 +1,5 @@
--- A square of tiles is touched exactly if one of its tiles on the grid is, whatever its side: its rectangle has the points of these tiles and no other, since along
--- an axis tiles have no gap. Where its rectangle is wholly covered, all of them are touched.
+-- A square of tiles is touched exactly if one of its tiles on the grid is, whatever its side: its rectangle has the points of these tiles and no other, since
+-- along an axis tiles have no gap. Where its rectangle is wholly covered, all of them are touched.
 use mathlib.Core.Path.{_≡_, sym, ap, subst, _∙_}
 use mathlib.Core.Bool.{true, false, _||_}
 use mathlib.Core.Logic.{_↔_}

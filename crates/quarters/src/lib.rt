@@ -1,5 +1,5 @@
-// The map of the tiles that a shape touches, found by quarters: a square of tiles that is touched is split into four until single tiles are reached. One that is
-// not touched, or is off the grid, is left out, and one that the shape covers wholly is filled as it is.
+// The map of the tiles that a shape touches, found by quarters: a square of tiles that is touched is split into four until single tiles are reached. One that
+// is not touched, or is off the grid, is left out, and one that the shape covers wholly is filled without another test.
 ghost use mathlib.Core.Path.{_≡_};
 ghost use Prim.Native.Nat.{_+_, _*_, _^_, _≤_, _<_};
 ghost use lib.ListN.{length};
@@ -9,7 +9,7 @@ ghost use Rattle.touch.specs.Corner.{bounds};
 ghost use Rattle.touch.specs.Edges.{starts, Outline};
 ghost use Rattle.walk.specs.Row.{outlined};
 ghost use Rattle.quarters.specs.Square.{InSquare, TouchedIn, StartsOnGrid, pastOf, squareRectangle, SquareSays, quarterOf, Small, Smallest, HoldsGrid};
-ghost use Rattle.quarters.specs.Map.{Mapped, MapSays, BytesSet, WithOnes};
+ghost use Rattle.quarters.specs.Map.{Mapped, MapSays, BytesSet, RowSet, WithOnes};
 use numbers::wide;
 use screen::Rectangle;
 use screen::Screen;
@@ -90,7 +90,7 @@ fn set_bytes(map: &mut [u8], start: usize, end: usize, value: u8)
 // Writes 1 for each tile of the square in a row, and no other byte.
 fn set_row(screen: Screen, square: Square, row: u32, map: &mut [u8])
     requires { ⌜ (Allowed screen) × (Small square) × (row < rows screen) × (tiles screen ≤ length (now map)) ⌝ }
-    ensures { λ _. ⌜ BytesSet 1 (row * columns screen + square .column) (row * columns screen + pastOf (columns screen) (square .column) (square .exponent)) (now (map .entry)) (now (map .exit)) ⌝ }
+    ensures { λ _. ⌜ RowSet screen square row (now (map .entry)) (now (map .exit)) ⌝ }
 {
     let columns = screen::columns_of(screen);
     let start = square.column;

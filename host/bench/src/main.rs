@@ -1,10 +1,12 @@
 //! Nanoseconds per call of the archive beside a plain Rust binner, in five runs; of draw calls and of the totals of a list, per
-//! shape; what a tile costs, in tests and in time; and by turns with another version's archive, where one is given. Screen 800 by 480, s = 4, 2,048 blocks; pools of
-//! edition one and, in the rows that say so, of edition two with 64 words to a block.
+//! shape; what a tile costs, in tests and in time, and what a map does; and by turns with another version's archive, where one is
+//! given. Screen 800 by 480, s = 4, 2,048 blocks; pools of edition one and, in the rows that say so, of edition two with 64 words to
+//! a block.
 
 mod clock;
 mod draws;
 mod lists;
+mod maps;
 mod plain;
 mod shapes;
 mod table;
@@ -319,14 +321,15 @@ fn run() -> Vec<Row> {
 }
 
 fn main() {
-    let (runs, walks): (Vec<_>, Vec<_>) = (1..=RUNS)
+    let (runs, walks, maps): (Vec<_>, Vec<_>, Vec<_>) = (1..=RUNS)
         .map(|count| {
             eprintln!("run {count} of {RUNS}");
-            (run(), walks::run())
+            (run(), walks::run(), maps::run())
         })
-        .unzip();
+        .collect();
     table::print(&runs);
     table::print_walks(&walks);
+    table::print_maps(&maps);
     #[cfg(other)]
     turns::print();
 }

@@ -1,5 +1,6 @@
 //! A plain binner to compare with: a vector of entries for each tile, and the same corner test. It refuses nothing, and there
-//! is nothing to audit. It takes shapes one by one or as a list. And the totals of a list of shapes, by the same test.
+//! is nothing to audit. It takes shapes one by one or as a list. And the totals of a list of shapes and the map of one, by the same
+//! test.
 
 use std::ops::Range;
 
@@ -187,6 +188,13 @@ pub fn overlaps(screen: Screen, list: &[i32]) -> Overlaps {
     Overlaps { shapes, out_of_range, box_tiles, touched_tiles, difference, largest, place }
 }
 
+/// The map of a shape, tile by tile through its box, in a byte for each tile. A call, as the archive's is.
+#[inline(never)]
+pub fn map(screen: Screen, shape: Shape<Vertex>, map: &mut [u8]) {
+    map.fill(0);
+    Grid::of(screen).touched(vertices(shape), |tile, _| map[tile] = 1);
+}
+
 /// The unit of a coordinate, or the number of its refusal. A call, as the archive's is.
 #[inline(never)]
 pub fn unit(v: f32) -> Result<i32, u32> {
@@ -269,6 +277,22 @@ mod tests {
             assert_eq!(plain.bin(1, line), tiles as usize, "{line:?}");
         }
         assert!((100..300).contains(&plain.lists[7].len()));
+    }
+
+    /// They, points and a triangle have the maps that the archive makes.
+    #[test]
+    fn a_map_is_the_archive_s() {
+        let point = |x, y| Shape::Point(Vertex { x, y });
+        let triangle = Shape::Triangle(Vertex { x: -9, y: -9 }, Vertex { x: 700, y: -9 }, Vertex { x: -9, y: 700 });
+        let (mut tiles, mut maps) = ([0; 8], [[0; 8], [9; 8]]);
+        for shape in [point(256, 256), point(-1, 0), triangle].into_iter().chain(lines()) {
+            let [archive, plain] = &mut maps;
+            raw::map(SCREEN, shape, archive).done().unwrap();
+            map(SCREEN, shape, plain);
+            assert_eq!(archive, plain, "{shape:?}");
+            tiles.iter_mut().zip(plain).for_each(|(tiles, byte)| *tiles += u32::from(*byte));
+        }
+        assert!(tiles[..7] == [2, 2, 1, 0, 2, 2, 0] && (100..300).contains(&tiles[7]), "{tiles:?}");
     }
 
     /// They, with a point before and a triangle after them, and shapes out of range, are counted as the archive counts them.

@@ -1,11 +1,17 @@
 //! The shapes that are binned and counted.
 
-use flourscoop::{Shape, Vertex};
+use flourscoop::{Screen, Shape, Vertex};
 
 use crate::TILES;
 
 pub fn triangle([x1, y1]: [i32; 2], [x2, y2]: [i32; 2], [x3, y3]: [i32; 2]) -> Shape<Vertex> {
     Shape::Triangle(Vertex { x: x1, y: y1 }, Vertex { x: x2, y: y2 }, Vertex { x: x3, y: y3 })
+}
+
+/// The triangle over a whole screen that has its right angle in the first corner, and the last one on its long side.
+pub fn over(screen: Screen) -> Shape<Vertex> {
+    let [right, bottom] = [screen.width, screen.height].map(|extent| 16 * extent as i32);
+    triangle([0, 0], [2 * right, 0], [0, 2 * bottom])
 }
 
 /// Triangles that touch one tile each, over the whole screen.

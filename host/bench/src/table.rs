@@ -1,5 +1,6 @@
 //! The table of the measures: for each call the middle of its runs and, in brackets, the least and the most.
 
+use crate::maps::Mapped;
 use crate::walks::Walked;
 
 /// What stands beside a call's time.
@@ -67,6 +68,10 @@ impl Spread {
     fn range(&self) -> String {
         self.ends().join(" to ")
     }
+
+    fn best_and_middle(&self) -> String {
+        format!("{}; {}", number(self.0[0]), number(self.middle()))
+    }
 }
 
 /// Prints the table of some runs, each of the same calls in the same order.
@@ -100,6 +105,37 @@ pub fn print_walks(runs: &[Vec<Walked>]) {
         let times = |of: fn(&Walked) -> f64| Spread::of(runs.iter().map(|run| of(&run[at]))).text();
         let (bin, bin_list) = (times(|walked| walked.bin), times(|walked| walked.bin_list));
         println!("| {kind} | {} | {through_box:.2} | {stepping:.2} | {bin} | {bin_list} |", number(*tiles));
+    }
+}
+
+/// A ratio with two decimals, below a tenth with three.
+fn small_ratio(ratio: f64) -> String {
+    if ratio < 0.1 {
+        format!("{ratio:.3}")
+    } else {
+        format!("{ratio:.2}")
+    }
+}
+
+/// Prints what a map costs, of the rounds of all runs together, each run of the same mixes in the same order: the best and the
+/// middle of its times, the ratio of the best ones, and the middle of the ratios within each round.
+pub fn print_maps(runs: &[Vec<Mapped>]) {
+    println!();
+    println!("| maps | tiles each | tests each, by quarters | by quarters alone | stepping | through the box | map, ns | tile by tile in plain Rust, ns | ratio | bin with its audit, ns |");
+    println!("|---|---|---|---|---|---|---|---|---|---|");
+    for (at, Mapped { kind, tiles, with_step, alone, stepping, through_box, .. }) in runs[0].iter().enumerate() {
+        let rounds = || runs.iter().flat_map(|run| &run[at].maps);
+        let [map, plain] = [0, 1].map(|which| Spread::of(rounds().map(|times| times[which])));
+        let ratios = Spread::of(rounds().map(|[map, plain]| map / plain));
+        let bins = Spread::of(runs.iter().flat_map(|run| run[at].bins.iter().flatten().copied()));
+        let mut line = format!("| {kind} |");
+        for counted in [Some(*tiles), Some(*with_step), Some(*alone), *stepping, Some(*through_box)] {
+            line += &counted.map_or(" |".into(), |counted| format!(" {} |", number(counted)));
+        }
+        line += &format!(" {} | {} |", map.best_and_middle(), plain.best_and_middle());
+        line += &format!(" {}; {} |", small_ratio(map.0[0] / plain.0[0]), small_ratio(ratios.middle()));
+        line += &if bins.0.is_empty() { " |".into() } else { format!(" {} |", bins.best_and_middle()) };
+        println!("{line}");
     }
 }
 

@@ -26,12 +26,14 @@
 
 mod bin_list;
 mod cover;
+mod map;
 mod overlaps;
 pub mod raw;
 mod refusal;
 
 pub use bin_list::{bin_list_of, refused, BIN_WORDS};
 pub use cover::{box_touches, corner_cover, Cover, Entry, WHOLE};
+pub use map::map;
 pub use overlaps::{list_of, overlaps, Overlaps, MOST_SHAPES, SHAPE_WORDS};
 pub use refusal::Refusal;
 

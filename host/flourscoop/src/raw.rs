@@ -46,6 +46,13 @@ extern "C" {
     fn flourscoop_corner_triangle(width: u32, height: u32, s: u32, tile: u32,
         x1: i32, y1: i32, x2: i32, y2: i32, x3: i32, y3: i32, cover: *mut u32) -> u32;
 
+    fn flourscoop_map_point(width: u32, height: u32, s: u32,
+        x1: i32, y1: i32, map: *mut u8, bytes: usize) -> u32;
+    fn flourscoop_map_line(width: u32, height: u32, s: u32,
+        x1: i32, y1: i32, x2: i32, y2: i32, map: *mut u8, bytes: usize) -> u32;
+    fn flourscoop_map_triangle(width: u32, height: u32, s: u32,
+        x1: i32, y1: i32, x2: i32, y2: i32, x3: i32, y3: i32, map: *mut u8, bytes: usize) -> u32;
+
     fn flourscoop_overlaps(list: *const i32, words: usize, width: u32, height: u32, s: u32,
         shapes: *mut u32, out_of_range: *mut u32, box_tiles: *mut u64, touched_tiles: *mut u64, difference: *mut u64,
         largest: *mut u32, place: *mut u32) -> u32;
@@ -159,6 +166,15 @@ pub fn corner_cover(screen: Screen, tile: u32, shape: Shape<Vertex>) -> Answer<[
     answer(|[cover]| {
         call!(flourscoop_corner_point flourscoop_corner_line flourscoop_corner_triangle:
             (width, height, s, tile) shape (cover))
+    })
+}
+
+/// Writes the map of a shape. Numbers: 0, 1, 7, 11.
+pub fn map(screen: Screen, shape: Shape<Vertex>, map: &mut [u8]) -> Answer<[u32; 0]> {
+    let Screen { width, height, s } = screen;
+    answer(|_| {
+        call!(flourscoop_map_point flourscoop_map_line flourscoop_map_triangle:
+            (width, height, s) shape (map.as_mut_ptr(), map.len()))
     })
 }
 

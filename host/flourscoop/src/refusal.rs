@@ -41,7 +41,7 @@ refusals! {
     NoRoom 8 "the shape needs more blocks than are free"
     NoTile 9 "there is no such tile"
     NoPlace 10 "the place is at or past the tile's number of entries"
-    Bytes 11 "there are fewer answer bytes than shapes"
+    Bytes 11 "there are fewer bytes than shapes in the list or tiles on the screen"
     List 15 "the list is too long or not of whole shapes, or a kind or an unused word is wrong"
 }
 

@@ -216,6 +216,12 @@ fn over_corners(random: &Random, rectangle: Rectangle) -> Vec<Vertex> {
     [[x, y], [far_x, y], [x, far_y]].map(|vertex| vertex.map(|along| along as i32)).to_vec()
 }
 
+/// A triangle at a tile that most often covers it wholly, with some of its corners on the edges.
+pub fn over(random: &Random, screen: Screen, tile: u32) -> Vec<Vertex> {
+    let way = random.pick(&[over_edge, over_corners]);
+    way(random, screen.rectangle(tile))
+}
+
 /// A shape in range that lies at a tile so that its answer often turns on one unit.
 pub fn shape(random: &Random, screen: Screen, tile: u32) -> Vec<Vertex> {
     let (rectangle, square) = (screen.rectangle(tile), square(screen, tile));

@@ -1,6 +1,6 @@
 //! What the tests share: fixed seeds, cases, the smallest failing case, the calls on the archive and on the model, the
-//! greatest length that each list had, lists of shapes, draw calls and the bytes lent for their answers, and the forms in which
-//! a shape can be binned.
+//! greatest length that each list had, lists of shapes, draw calls and the bytes lent for their answers, the forms in which
+//! a shape can be binned, and maps.
 
 pub mod answers;
 pub mod call;
@@ -10,6 +10,7 @@ pub mod generate;
 pub mod hold;
 pub mod lengths;
 pub mod list;
+pub mod mapped;
 pub mod random;
 pub mod smaller;
 pub mod square;

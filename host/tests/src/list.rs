@@ -75,7 +75,7 @@ fn at_the_ends(random: &Random, vertices: usize) -> Vec<Vertex> {
 
 /// A shape at a tile of the screen, and then and now one at the ends of the range, past them, with vertices that coincide, or
 /// over the whole screen.
-fn shape(random: &Random, screen: Screen) -> Vec<Vertex> {
+pub fn shape(random: &Random, screen: Screen) -> Vec<Vertex> {
     let shape = generate::shape(random, screen, generate::tile(random, screen));
     let (first, last) = (shape[0], shape[shape.len() - 1]);
     match random.below(16) {

@@ -1,8 +1,8 @@
-//! What document 01 and requests P1, P2, P4, P5, P6, P8 and P12 list, by the wrapper.
+//! What document 01 and requests P1, P2, P4, P5, P6, P8 and P12 list, by the wrapper; and request P9's maps of it.
 
 use flourscoop::{
-    bin_list_of, box_touches, corner_cover, list_of, overlaps, refused, room, room_two, unit, Binned, Cover, Entry,
-    Overlaps, Pixel, Pool, Refusal, Shape, Vertex, BIN_WORDS, WHOLE,
+    bin_list_of, box_touches, corner_cover, list_of, map, overlaps, refused, room, room_two, unit, Binned, Cover,
+    Entry, Overlaps, Pixel, Pool, Refusal, Shape, Vertex, BIN_WORDS, WHOLE,
 };
 use model::layout::{Layout, LAYOUTS};
 use model::listed::{Drawn, Listed, DRAWN, LISTED};
@@ -19,7 +19,7 @@ const fn point(x: i32, y: i32) -> Shape<Vertex> {
     Shape::Point(Vertex { x, y })
 }
 
-/// Bins a case on a screen of eight tiles, reads each list, and asks both questions of each tile.
+/// Bins a case on a screen of eight tiles, reads each list, asks both questions of each tile, and makes the map.
 fn check(case_screen: Screen, case: &Marked) {
     let name = format!("{} on {case_screen:?}", case.name);
     let (screen, shape) = (screen_of(case_screen), shape_of(case.shape));
@@ -39,6 +39,10 @@ fn check(case_screen: Screen, case: &Marked) {
         assert_eq!(corner_cover(screen, tile, shape), Ok(cover), "{name}");
         assert_eq!(box_touches(screen, tile, shape), Ok(case.boxed.contains(&tile)), "{name}");
     }
+    let mut bytes = [9; 9];
+    assert_eq!(map(screen, shape, &mut bytes), Ok(()), "{name}");
+    assert_eq!(bytes[..8], [0, 1, 2, 3, 4, 5, 6, 7].map(|tile| u8::from(case.tiles.contains(&tile))), "{name}");
+    assert_eq!(bytes[8], 9, "{name}");
 }
 
 #[test]

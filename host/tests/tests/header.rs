@@ -6,6 +6,7 @@ use model::layout::{Layout, LAYOUTS};
 use model::marked::SCREEN;
 use model::overlaps::{overlaps, Totals};
 use model::pool::{State, MOST_ENTRY, MOST_ID, POISON, WHOLE};
+use model::quarters::map;
 use model::shapes::{vertices, MOST_SHAPES, WORDS_OF_BIN, WORDS_OF_SHAPE};
 use model::stepping::{walk, Walk};
 use model::touch::touched;
@@ -134,7 +135,7 @@ fn the_declarations_are_the_wrapper_s() {
     let mut wrapper: Vec<String> = declarations(WRAPPER, "    fn ").into_iter().map(one_line).collect();
     header.sort();
     wrapper.sort();
-    assert_eq!(header.len(), 21);
+    assert_eq!(header.len(), 24);
     assert_eq!(header, wrapper);
 }
 
@@ -239,4 +240,12 @@ fn the_walks_of_the_examples_are_the_model_s() {
     let (list, said) = listed_in_lines("walk");
     let walks: Vec<String> = list.chunks(WORDS_OF_SHAPE).map(|words| said_of_walk(&vertices(words))).collect();
     assert_eq!((said.len(), said), (5, walks.iter().map(String::as_str).collect()));
+}
+
+#[test]
+fn the_maps_of_the_examples_are_the_model_s() {
+    let (list, said) = listed_in_lines("map");
+    let bytes = |words: &[i32]| map(SCREEN, &vertices(words), 8).unwrap().iter().map(u8::to_string).collect::<Vec<_>>();
+    let maps: Vec<String> = list.chunks(WORDS_OF_SHAPE).map(|words| bytes(words).join(" ")).collect();
+    assert_eq!((said.len(), said), (6, maps.iter().map(String::as_str).collect()));
 }

@@ -1,5 +1,5 @@
--- The proof of the cycle of calls {fill}: the side's exponent falls. A square that is not touched has no touched tile; one that is wholly covered, or has a single
--- tile, has no other; and any other has the touched tiles of its four quarters.
+-- The proof of the cycle of calls {fill}: the side's exponent falls. A square that is not touched has no touched tile; one that is wholly covered, or is a
+-- single tile, has no other; and any other has the touched tiles of its four quarters.
 use mathlib.Core.Path.{_≡_, ap, sym, subst, _∙_}
 use mathlib.Core.Bool.{Bool, _||_}
 use Prim.Native.Nat.{ℕ, _-_, _≤_, _<_}
@@ -88,15 +88,19 @@ fill-returns-2 t c =
     let cover = f .before .before .before .before .before .square-cover in
     let whole = ap (λ (b : Bool). b || eqb (s .args .square .exponent) 0) (f .before .before .is-whole .ensures) in
     let touched = sym (f .before .before .before .before .is-touched .ensures) ∙ not-false _ (f .before .before .before .if1 .left) in
-    let all = all-touched (s .args .screen) (s .pre .1 .0) (outlined (s .args .edges)) (s .args .square) (cover .result) touched (sym whole ∙ f .if2 .taken) (cover .ensures) in
+    let all =
+    all-touched (s .args .screen) (s .pre .1 .0) (outlined (s .args .edges)) (s .args .square) (cover .result) touched (sym whole ∙ f .if2 .taken)
+    (cover .ensures) in
     ones-iff (λ i h. (h, all i h)) (λ i h. h .0) (c .before .before .set-tiles .ensures)
 
 -- what is split has a side to halve
-split : (t : ℕ) (c : fill-lts.Else2 (known t) (fill-at t) fill.Post fill-Inv-loop fill-μ-loop) → 0 < c .before .before .before .before .before .before .before .args .square .exponent
+split : (t : ℕ) (c : fill-lts.Else2 (known t) (fill-at t) fill.Post fill-Inv-loop fill-μ-loop)
+    → 0 < c .before .before .before .before .before .before .before .args .square .exponent
 split t c =
     let s = c .before .before .before .before .before .before .before in
     let whole = ap (λ (b : Bool). b || eqb (s .args .square .exponent) 0) (c .before .before .is-whole .ensures) in
-    to-split (s .args .screen) (s .pre .1 .0) (outlined (s .args .edges)) (s .args .square) (c .before .before .before .before .before .square-cover .result) (sym whole ∙ c .if2 .left)
+    let cover = c .before .before .before .before .before .square-cover in
+    to-split (s .args .screen) (s .pre .1 .0) (outlined (s .args .edges)) (s .args .square) (cover .result) (sym whole ∙ c .if2 .left)
 
 fill-loop-holds : (t : ℕ) → fill-lts.Need-loop-holds (known t) (fill-at t) fill.Post fill-Inv-loop fill-μ-loop
 fill-loop-holds t c =

@@ -60,7 +60,9 @@ fill-requires c κs =
     )
 
 same-length : tie.Need-same-length
-same-length c = c .before .before .fill .ensures .size ∙ c .before .before .before .before .before .before .before .before .before .before .set-bytes .ensures .size
+same-length c =
+    let f = c .before .before in
+    f .fill .ensures .size ∙ f .before .before .before .before .before .before .before .before .set-bytes .ensures .size
 
 returns : tie.Need-returns
 returns c =
@@ -71,9 +73,10 @@ returns c =
     let d = s .args .screen in
     let shape : Shape = s .args .shape in
     let q = f .before .before .square-of in
-    let zeros = subst (λ (n : ℕ). BytesSet 0 0 n (s .args .map .now) (b .set-bytes .last .0)) (b .before .wide .ensures ∙ b .before .before .tiles-of .ensures) (b .set-bytes .ensures) in
+    let cleared = b .set-bytes .last .0 in
+    let zeros = subst (λ (n : ℕ). BytesSet 0 0 n (s .args .map .now) cleared) (b .before .wide .ensures ∙ b .before .before .tiles-of .ensures) (b .set-bytes .ensures) in
     let edges = f .before .before .before .edges-of .ensures ∙ ap edgesOf (v .three-of .ensures) in
-    let ones = subst (λ (e : Edges). WithOnes (TouchedIn d (outlined e) (q .result)) (b .set-bytes .last .0) (f .fill .last .1 .1 .1 .1 .0)) edges (f .fill .ensures) in
+    let ones = subst (λ (e : Edges). WithOnes (TouchedIn d (outlined e) (q .result)) cleared (f .fill .last .1 .1 .1 .1 .0)) edges (f .fill .ensures) in
     mapped d (s .pre .0) shape (q .ensures) zeros
     (ones-iff (λ t h. (h .0, touches-as-triangle shape .1 (h .1))) (λ t h. (h .0, touches-as-triangle shape .0 (h .1))) ones)
 

@@ -81,10 +81,13 @@ returns c =
     let s = c .before .before .before .before .before .before .before .before in
     let d = s .args .screen in
     let q = s .args .square in
-    let columns = c .before .before .before .before .before .before .past-of .ensures ∙ ap (λ (n : ℕ). pastOf n (q .column) (q .exponent)) (c .before .before .before .before .before .before .before .columns-of .ensures) in
-    let rows = c .before .before .before .before .past-of2 .ensures ∙ ap (λ (n : ℕ). pastOf n (q .row) (q .exponent)) (c .before .before .before .before .before .rows-of .ensures) in
+    let r = c .before .before .before .before in
+    let p = r .before .before in
+    let columns = p .past-of .ensures ∙ ap (λ (n : ℕ). pastOf n (q .column) (q .exponent)) (p .before .columns-of .ensures) in
+    let rows = r .past-of2 .ensures ∙ ap (λ (n : ℕ). pastOf n (q .row) (q .exponent)) (r .before .rows-of .ensures) in
     let left = is-call w64 (c .before .before .before .near-side .ok) (c .before .before .before .near-side .ensures) .same in
-    let right = is-call w64 (c .before .before .far-side .ok) (c .before .before .far-side .ensures) .same ∙ ap (λ (n : ℕ). far (d .width) (d .s) (n - 1)) columns in
+    let far-side = c .before .before .far-side in
+    let right = is-call w64 (far-side .ok) (far-side .ensures) .same ∙ ap (λ (n : ℕ). far (d .width) (d .s) (n - 1)) columns in
     let top = is-call w64 (c .before .near-side2 .ok) (c .before .near-side2 .ensures) .same in
     let bottom = is-call w64 (c .far-side2 .ok) (c .far-side2 .ensures) .same ∙ ap (λ (n : ℕ). far (d .height) (d .s) (n - 1)) rows in
     λ i. record { left = left i; right = right i; top = top i; bottom = bottom i }

@@ -64,7 +64,8 @@ returns c =
     let end = c .before .before .before .before .before .before .past-of .ensures ∙ ap (λ (n : ℕ). pastOf n (q .column) (q .exponent)) columns in
     let from = c .before .before .before .before .wide .ensures ∙ (λ i. row * columns i + q .column) in
     let to = c .before .before .before .wide2 .ensures ∙ (λ i. row * columns i + end i) in
-    subst (λ (p : Type 0). p) (λ i. BytesSet 1 (from i) (to i) (s .args .map .now) (c .before .before .set-bytes .last .0)) (c .before .before .set-bytes .ensures)
+    let set = c .before .before .set-bytes in
+    subst (λ (p : Type 0). p) (λ i. BytesSet 1 (from i) (to i) (s .args .map .now) (set .last .0)) (set .ensures)
 
 pub set-row-spec : {M : Type 1} → statement M
 set-row-spec =

@@ -1,4 +1,4 @@
--- `quarters::square_cover` meets its contract: off the grid there is no tile to touch, and on it the test of the square's rectangle says of its tiles what is wanted.
+-- `quarters::square_cover` meets its contract: off the grid there is no tile to touch, and on it the test of the square's rectangle tells of its tiles.
 use mathlib.Core.Path.{sym, subst}
 use native.Mathlib.Omega.{arith}
 use Rattle.screen.specs.declared.Rectangle.{Rectangle}
@@ -32,10 +32,11 @@ returns-2 c =
     below-the-grid (s .args .screen) (s .pre .0) (outlined (s .args .edges)) (s .args .square) (omega arith)
 
 -- past the two tests the square starts on the grid
-starts-on-grid : (c : tie.After-rectangle-of) → let s = c .before .before .before .before .before .before .before in StartsOnGrid (s .args .screen) (s .args .square)
+starts-on-grid : (c : tie.After-rectangle-of)
+    → let s = c .before .before .before .before .before .before .before in StartsOnGrid (s .args .screen) (s .args .square)
 starts-on-grid c =
     record {
-      column = let e = c .before .before .before .before .before .before .columns-of .ensures in let l = c .before .before .before .before .if1 .left in omega arith;
+      column = let f = c .before .before .before .before in let e = f .before .before .columns-of .ensures in let l = f .if1 .left in omega arith;
       row = let e = c .before .before .before .rows-of .ensures in let l = c .before .if2 .left in omega arith;
     }
 

@@ -34,7 +34,9 @@ cover-at-requires c κs =
     let q = s .args .rectangle in
     let ok = s .pre .2 in
     let g = c .struct-told4 .given in
-    let row = c .before .before .row-edges .ensures ∙ (λ i. rowEdges (s .args .edges) (kept-is w64 (q .top) (g .1 .1 .0 .1) i) (kept-is w64 (q .bottom) (g .1 .1 .1 .0 .1) i)) in (
+    let top = kept-is w64 (q .top) (g .1 .1 .0 .1) in
+    let bottom = kept-is w64 (q .bottom) (g .1 .1 .1 .0 .1) in
+    let row = c .before .before .row-edges .ensures ∙ (λ i. rowEdges (s .args .edges) (top i) (bottom i)) in (
       subst RowEdgesRange (sym row) (row-edges-range (outline-range (s .pre .0)) (top-within ok) (bottom-within ok)),
       subst (Within 524288) (sym (kept-is w64 (q .left) (g .0 .1))) (left-within ok),
       subst (Within 524288) (sym (kept-is w64 (q .right) (g .1 .0 .1))) (right-within ok),
@@ -45,8 +47,11 @@ returns c =
     let s = c .before .before .before .before .before .before .before .before in
     let q : Rectangle = s .args .rectangle in
     let g = c .before .struct-told4 .given in
-    let box = c .before .before .before .before .before .before .before .overlap .ensures .yes (c .before .before .before .before .before .before .if1 .taken) in
-    let row = c .before .before .before .row-edges .ensures ∙ (λ i. rowEdges (s .args .edges) (kept-is w64 (q .top) (g .1 .1 .0 .1) i) (kept-is w64 (q .bottom) (g .1 .1 .1 .0 .1) i)) in
+    let f = c .before .before .before .before .before .before in
+    let box = f .before .overlap .ensures .yes (f .if1 .taken) in
+    let top = kept-is w64 (q .top) (g .1 .1 .0 .1) in
+    let bottom = kept-is w64 (q .bottom) (g .1 .1 .1 .0 .1) in
+    let row = c .before .before .before .row-edges .ensures ∙ (λ i. rowEdges (s .args .edges) (top i) (bottom i)) in
     outline-cover-at-says (s .pre .0) (s .pre .2) (s .pre .3) (subst (λ (p : Bounds). Overlap p q) (s .pre .1) box) (c .cover-at .result)
     (subst (λ (P : Type 0). P)
     (λ i. CoverAt (c .cover-at .result) (row i) (kept-is w64 (q .left) (g .0 .1) i) (kept-is w64 (q .right) (g .1 .0 .1) i))

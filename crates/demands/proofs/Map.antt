@@ -71,7 +71,7 @@ module _ {d : Screen} {shape : Shape} {p : List ℕ} where
 -- ---- the walk and the bin
 
 pub map-agrees-with-the-walk : AgreesWithTheWalk
-map-agrees-with-the-walk d shape p q m n old new w t h = let k = accepted-map m (omega arith) in agrees-with-the-walk d (k .0) shape (k .1) (w .touched) t h
+map-agrees-with-the-walk d shape p q m ts w = let k = accepted-map m (omega arith) in agrees-with-the-walk d (k .0) shape (k .1) w
 
 pub map-agrees-with-the-bin : AgreesWithTheBin
 map-agrees-with-the-bin p S shape id a q b z old new m t h =

@@ -3,12 +3,11 @@ use mathlib.Core.Path.{_≡_}
 use mathlib.Core.Logic.{_≢_, _⊎_, _↔_}
 use mathlib.Core.List.{List, [], _∷_}
 use Prim.Native.Nat.{ℕ, _+_, _<_}
-use lib.ListN.{length, getD, take}
-use Rattle.numbers.specs.Flag.{plains}
+use lib.ListN.{length, getD}
 use Rattle.screen.specs.declared.Screen.{Screen}
 use Rattle.screen.specs.Screen.{tiles}
 use Rattle.shape.specs.declared.Shape.{Shape}
-use Rattle.walk.specs.Touched.{Walked}
+use Rattle.walk.specs.Touched.{TouchedTiles}
 use Rattle.quarters.specs.Map.{MapSays}
 use Rattle.pool.specs.Words.{layoutOf}
 use Rattle.pool.specs.Sound.{Sound, screenOf, tilesOf}
@@ -23,11 +22,11 @@ pub record Demand1Map (d : Screen) (p : List ℕ) (number : ℕ) (q : List ℕ) 
   pub outside : number ≡ 0 → Outside (tiles d) p q
   pub bytes : number ≡ 0 → (t : ℕ) → t < tiles d → Among (getD q t 0) (0 ∷ 1 ∷ [])
 
--- on every shape: byte t is 1 exactly if tile t is among those that a walk lists
+-- on every shape: byte t is 1 exactly if tile t is in the list of touched tiles, which is what either walk lists
 abbrev pub AgreesWithTheWalk : Type 0
 AgreesWithTheWalk =
-    (d : Screen) (shape : Shape) (p q : List ℕ) → MapSays d shape p 0 q → (n : ℕ) (old new : List ℕ) → Walked d shape n old new
-    → (t : ℕ) → t < tiles d → getD q t 0 ≡ 1 ↔ ((i : ℕ) × (i < length (plains (take n new))) × (getD (plains (take n new)) i 0 ≡ t))
+    (d : Screen) (shape : Shape) (p q : List ℕ) → MapSays d shape p 0 q → (ts : List ℕ) → TouchedTiles d shape ts
+    → (t : ℕ) → t < tiles d → getD q t 0 ≡ 1 ↔ ((i : ℕ) × (i < length ts) × (getD ts i 0 ≡ t))
 
 -- an accepted bin of the shape on a pool of that screen: the list of tile t gains as many entries as byte t says
 abbrev pub AgreesWithTheBin : Type 0

@@ -1,3 +1,4 @@
 pub mod Touched
 pub mod Ones
+pub mod Inward
 pub mod Mapped

@@ -14,7 +14,7 @@ use Rattle.screen.specs.Screen.{Allowed, columns, rows, tiles, columnOf, rowOf,
 use Rattle.screen.proofs.Laws.{column-row, column<, row<, column-is, row-is, tile<}
 use Rattle.shape.specs.declared.Shape.{Shape}
 use Rattle.quarters.specs.declared.Square.{Square}
-use Rattle.quarters.specs.Square.{InSquare, TouchedIn, pastOf, quarterOf, Small}
+use Rattle.quarters.specs.Square.{InSquare, TouchedIn, pastOf, besideOf, firstQuarter, TouchedInFirst, Small}
 use Rattle.quarters.specs.Map.{BytesSet, RowSet, WithOnes}
 
 -- ---- bytes, one after another
@@ -136,35 +136,46 @@ module _ (d : Screen) (a : Allowed d) (q : Square) where
 pub bit≤ : (b h : ℕ) → b ≤ 1 → b * h ≤ h
 bit≤ b h l = let w : b * h ≤ 1 * h = mul-le-mul-right h l in omega arith
 
--- the touched tiles of the quarters before quarter k
-abbrev pub QuartersBefore : Screen → Shape → Square → (k : ℕ) → ℕ → Type 0
-QuartersBefore d shape q k t = (j : ℕ) × (j < k) × TouchedIn d shape (quarterOf q j) t
-
 module _ (d : Screen) (shape : Shape) (q : Square) where
-  pub no-quarter : (m : List ℕ) → WithOnes (QuartersBefore d shape q 0) m m
-  no-quarter m = ones-none (λ t g. let l = g .1 in omega arith)
+  pub no-square : (m : List ℕ) → WithOnes (TouchedInFirst d shape q 0) m m
+  no-square m = ones-none (λ t g. let l = g .1 in omega arith)
 
-  pub quarter-more : {k : ℕ} {m o p : List ℕ} → WithOnes (QuartersBefore d shape q k) m o → WithOnes (TouchedIn d shape (quarterOf q k)) o p
-      → WithOnes (QuartersBefore d shape q (k + 1)) m p
-  quarter-more {k} w v = ones-iff to from (ones-then w v)
+  pub square-more : {k : ℕ} {m o p : List ℕ} → WithOnes (TouchedInFirst d shape q k) m o → WithOnes (TouchedIn d shape (besideOf q k)) o p
+      → WithOnes (TouchedInFirst d shape q (k + 1)) m p
+  square-more {k} w v = ones-iff to from (ones-then w v)
     where
-      to : (t : ℕ) → QuartersBefore d shape q k t ⊎ TouchedIn d shape (quarterOf q k) t → QuartersBefore d shape q (k + 1) t
+      to : (t : ℕ) → TouchedInFirst d shape q k t ⊎ TouchedIn d shape (besideOf q k) t → TouchedInFirst d shape q (k + 1) t
       to t (inl (j, l, g)) = (j, omega arith, g)
       to t (inr g) = (k, omega arith, g)
 
-      from : (t : ℕ) → QuartersBefore d shape q (k + 1) t → QuartersBefore d shape q k t ⊎ TouchedIn d shape (quarterOf q k) t
+      from : (t : ℕ) → TouchedInFirst d shape q (k + 1) t → TouchedInFirst d shape q k t ⊎ TouchedIn d shape (besideOf q k) t
       from t (j, l, g) =
-          ⊎-elim (λ (e : j ≡ k). inr (subst (λ (i : ℕ). TouchedIn d shape (quarterOf q i) t) e g)) (λ (e : j ≢ k). inl (j, omega arith, g)) (eq-or-ne j k)
+          ⊎-elim (λ (e : j ≡ k). inr (subst (λ (i : ℕ). TouchedIn d shape (besideOf q i) t) e g)) (λ (e : j ≢ k). inl (j, omega arith, g)) (eq-or-ne j k)
+
+  -- the first alone
+  pub first-alone : besideOf q 0 ≡ q
+  first-alone = λ i. record { column = column i; row = row i; exponent = q .exponent }
+    where
+      column : q .column + 0 % 2 * 2 ^ q .exponent ≡ q .column
+      column = omega arith
+
+      row : q .row + 0 / 2 * 2 ^ q .exponent ≡ q .row
+      row = omega arith
+
+  pub one-square : {m o : List ℕ} → WithOnes (TouchedInFirst d shape q 1) m o → WithOnes (TouchedIn d shape q) m o
+  one-square =
+      ones-iff (λ t g. let l = g .1 in let e : g .0 ≡ 0 = omega arith in subst (λ (r : Square). TouchedIn d shape r t) (ap (besideOf q) e ∙ first-alone) (g .2))
+      (λ t g. (0, omega arith, subst (λ (r : Square). TouchedIn d shape r t) (sym first-alone) g))
 
 module _ (q : Square) (n : 0 < q .exponent) where
   abbrev h : ℕ
   h = 2 ^ (q .exponent - 1)
 
-  halves : 2 ^ q .exponent ≡ h + h
+  pub halves : 2 ^ q .exponent ≡ h + h
   halves = let e : q .exponent ≡ q .exponent - 1 + 1 = omega arith in ap (λ (k : ℕ). 2 ^ k) e ∙ pow-add 2 (q .exponent - 1) 1 ∙ omega arith
 
   -- a quarter is as small as the square
-  pub small-quarter : Small q → {k : ℕ} → k < 4 → Small (quarterOf q k)
+  pub small-quarter : Small q → {k : ℕ} → k < 4 → Small (besideOf (firstQuarter q) k)
   small-quarter s {k} l =
       let w = halves in
       let x = bit≤ (k % 2) h (omega arith) in
@@ -172,7 +183,7 @@ module _ (q : Square) (n : 0 < q .exponent) where
       record { exponent = let e = s .exponent in omega arith; column = let c = s .column in omega arith; row = let r = s .row in omega arith }
 
   module _ (d : Screen) (shape : Shape) where
-    part : (t j : ℕ) → j < 4 → TouchedIn d shape (quarterOf q j) t → TouchedIn d shape q t
+    part : (t j : ℕ) → j < 4 → TouchedIn d shape (besideOf (firstQuarter q) j) t → TouchedIn d shape q t
     part t j l g =
         let w = halves in
         let x = bit≤ (j % 2) h (omega arith) in
@@ -180,7 +191,7 @@ module _ (q : Square) (n : 0 < q .exponent) where
         let i = g .0 in
         (record { on-grid = i .on-grid; column≥ = omega arith; column< = omega arith; row≥ = omega arith; row< = omega arith }, g .1)
 
-    parts : (t : ℕ) → TouchedIn d shape q t → QuartersBefore d shape q 4 t
+    parts : (t : ℕ) → TouchedIn d shape q t → TouchedInFirst d shape (firstQuarter q) 4 t
     parts t g =
         let w = halves in
         let i = g .0 in
@@ -197,8 +208,8 @@ module _ (q : Square) (n : 0 < q .exponent) where
       where
         -- the tile stands in quarter k
         at : (k : ℕ) → k < 4 → (q .column + k % 2 * h ≤ columnOf d t) × (columnOf d t < q .column + k % 2 * h + h)
-            → (q .row + k / 2 * h ≤ rowOf d t) × (rowOf d t < q .row + k / 2 * h + h) → QuartersBefore d shape q 4 t
+            → (q .row + k / 2 * h ≤ rowOf d t) × (rowOf d t < q .row + k / 2 * h + h) → TouchedInFirst d shape (firstQuarter q) 4 t
         at k l x y = (k, l, (record { on-grid = g .0 .on-grid; column≥ = x .0; column< = x .1; row≥ = y .0; row< = y .1 }, g .1))
 
-    pub all-quarters : {m o : List ℕ} → WithOnes (QuartersBefore d shape q 4) m o → WithOnes (TouchedIn d shape q) m o
+    pub all-quarters : {m o : List ℕ} → WithOnes (TouchedInFirst d shape (firstQuarter q) 4) m o → WithOnes (TouchedIn d shape q) m o
     all-quarters = ones-iff (λ t g. part t (g .0) (g .1) (g .2)) parts

@@ -9,7 +9,10 @@ use Rattle.screen.specs.Screen.{columns, rows, tiles, columnOf, rowOf}
 use Rattle.screen.specs.Rectangle.{near, far, rectangle}
 use Rattle.shape.specs.declared.Shape.{Shape}
 use Rattle.touch.specs.declared.Cover as answer
+use Rattle.touch.specs.declared.Edges.{Edges}
+use Rattle.touch.specs.declared.Inward.{Inward}
 use Rattle.touch.specs.Touches.{Touches}
+use Rattle.touch.specs.Look.{InwardOf}
 use Rattle.quarters.specs.declared.Square.{Square}
 
 -- tile t is on the grid and stands in the square: among its 2^exponent columns and as many rows
@@ -61,16 +64,23 @@ SquareSays answer.the-variants.Apart d shape q = SomeTouchedIn d shape q → ⊥
 SquareSays answer.the-variants.Partly d shape q = SomeTouchedIn d shape q
 SquareSays answer.the-variants.Wholly d shape q = (t : ℕ) → InSquare d q t → Touches shape (rectangle d t)
 
+-- the edges that are named have the square on their inner side
+abbrev pub InwardOn : Inward → Screen → Edges → Square → Type 0
+InwardOn w d e q = StartsOnGrid d q → InwardOf w e (squareRectangle d q)
+
 -- ---- the split
 
--- quarter k of a square: 0 and 1 above, from the left, 2 and 3 below
-abbrev pub quarterOf : Square → (k : ℕ) → Square
-quarterOf q k =
-    record {
-      column = q .column + k % 2 * 2 ^ (q .exponent - 1);
-      row = q .row + k / 2 * 2 ^ (q .exponent - 1);
-      exponent = q .exponent - 1;
-    }
+-- square k of four squares of one side, of which q is the first: 0 and 1 above, from the left, 2 and 3 below
+abbrev pub besideOf : Square → (k : ℕ) → Square
+besideOf q k = record { column = q .column + k % 2 * 2 ^ q .exponent; row = q .row + k / 2 * 2 ^ q .exponent; exponent = q .exponent }
+
+-- the first quarter of a square; the four of which it is the first are the square's quarters
+abbrev pub firstQuarter : Square → Square
+firstQuarter q = record { column = q .column; row = q .row; exponent = q .exponent - 1 }
+
+-- tile t stands in one of the first n of these four, and is touched
+abbrev pub TouchedInFirst : Screen → Shape → Square → (n : ℕ) → ℕ → Type 0
+TouchedInFirst d shape q n t = (k : ℕ) × (k < n) × TouchedIn d shape (besideOf q k) t
 
 -- the square lies among 512 by 512 tiles, which no grid passes
 pub record Small (q : Square) : Type 0 where

@@ -1,14 +1,14 @@
 // The map of the tiles that a shape touches, found by quarters: a square of tiles that is touched is split into four until single tiles are reached. One that
 // is not touched, or is off the grid, is left out, and one that the shape covers wholly is filled without another test.
 ghost use mathlib.Core.Path.{_≡_};
-ghost use Prim.Native.Nat.{_+_, _*_, _^_, _≤_, _<_};
+ghost use Prim.Native.Nat.{ℕ, _+_, _*_, _^_, _≤_, _<_};
 ghost use lib.ListN.{length};
 ghost use Rattle.screen.specs.Screen.{Allowed, columns, rows, tiles};
 ghost use Rattle.shape.specs.Shape.{InRange};
 ghost use Rattle.touch.specs.Corner.{bounds};
 ghost use Rattle.touch.specs.Edges.{starts, Outline};
 ghost use Rattle.walk.specs.Row.{outlined};
-ghost use Rattle.quarters.specs.Square.{InSquare, TouchedIn, StartsOnGrid, pastOf, squareRectangle, SquareSays, quarterOf, Small, Smallest, HoldsGrid};
+ghost use Rattle.quarters.specs.Square.{InSquare, TouchedIn, StartsOnGrid, pastOf, squareRectangle, SquareSays, InwardOn, besideOf, firstQuarter, TouchedInFirst, Small, Smallest, HoldsGrid};
 ghost use Rattle.quarters.specs.Map.{Mapped, MapSays, BytesSet, RowSet, WithOnes};
 use numbers::wide;
 use screen::Rectangle;
@@ -17,6 +17,8 @@ use shape::Shape;
 use touch::Bounds;
 use touch::Cover;
 use touch::Edges;
+use touch::Inward;
+use touch::Looked;
 
 // A square of 2^exponent by 2^exponent tiles, by the column and the row of its first.
 pub struct Square {
@@ -61,18 +63,28 @@ fn rectangle_of(screen: Screen, square: Square) -> Rectangle
     }
 }
 
-// How the shape of the edges, whose bounding box is around, covers the tiles of a square that are on the grid, taken as one; apart where there are none.
-fn square_cover(screen: Screen, around: Bounds, edges: Edges, square: Square) -> Cover
+// How the shape of the edges, whose bounding box is around, covers the tiles of a square that are on the grid, taken as one; apart where there are none. Edges
+// that are known to have the square on their inner side are not looked at.
+fn square_look(screen: Screen, around: Bounds, edges: Edges, known: Inward, square: Square) -> Looked
     requires { ⌜ (Allowed screen) × (Outline edges) × (around ≡ bounds (starts edges)) × (square .exponent ≤ 9) ⌝ }
-    ensures { λ r. ⌜ SquareSays r screen (outlined edges) square ⌝ }
+    requires { ⌜ InwardOn known screen edges square ⌝ }
+    ensures cover { λ r. ⌜ SquareSays (r .cover) screen (outlined edges) square ⌝ }
+    ensures inward { λ r. ⌜ InwardOn (r .inward) screen edges square ⌝ }
 {
+    let cover = Cover::Apart;
     if screen::columns_of(screen) <= square.column {
-        return Cover::Apart;
+        return Looked {
+            cover,
+            inward: known,
+        };
     }
     if screen::rows_of(screen) <= square.row {
-        return Cover::Apart;
+        return Looked {
+            cover,
+            inward: known,
+        };
     }
-    touch::outline_cover(around, edges, rectangle_of(screen, square))
+    touch::look(around, edges, known, rectangle_of(screen, square))
 }
 
 // Sets the bytes from start on and before end to a value.
@@ -112,28 +124,48 @@ fn set_tiles(screen: Screen, square: Square, map: &mut [u8])
     }
 }
 
-// Quarter k of a square: 0 and 1 above, from the left, 2 and 3 below.
-fn quarter(square: Square, k: u32) -> Square
-    requires { ⌜ (Small square) × (0 < square .exponent) × (k < 4) ⌝ }
-    ensures { λ r. ⌜ r ≡ quarterOf square k ⌝ }
+// Square k of four squares of one side, of which this is the first: 0 and 1 above, from the left, 2 and 3 below.
+fn beside(first: Square, k: u32) -> Square
+    requires { ⌜ (Small (besideOf first k)) × (k < 4) ⌝ }
+    ensures { λ r. ⌜ r ≡ besideOf first k ⌝ }
 {
-    let exponent = square.exponent - 1;
-    let half = side_of(exponent);
-    let column = square.column + k % 2 * half;
-    let row = square.row + k / 2 * half;
+    let side = side_of(first.exponent);
+    let column = first.column + k % 2 * side;
+    let row = first.row + k / 2 * side;
     Square {
         column,
         row,
-        exponent,
+        exponent: first.exponent,
     }
 }
 
-// Writes 1 for each tile of the square that the shape of the edges touches, and no other byte. The shape's bounding box is around.
-fn fill(screen: Screen, around: Bounds, edges: Edges, square: Square, map: &mut [u8])
+// The first quarter of a square.
+fn first_quarter(square: Square) -> Square
+    requires { ⌜ 0 < square .exponent ⌝ }
+    ensures { λ r. ⌜ r ≡ firstQuarter square ⌝ }
+{
+    Square {
+        column: square.column,
+        row: square.row,
+        exponent: square.exponent - 1,
+    }
+}
+
+// Writes 1 for each tile of the square that the shape of the edges touches, and no other byte, by what a look at the square told. The shape's bounding box is
+// around.
+fn fill_square(
+    screen: Screen,
+    around: Bounds,
+    edges: Edges,
+    looked: Looked,
+    square: Square,
+    map: &mut [u8],
+)
     requires { ⌜ (Allowed screen) × (Outline edges) × (around ≡ bounds (starts edges)) × (Small square) × (tiles screen ≤ length (now map)) ⌝ }
+    requires { ⌜ (SquareSays (looked .cover) screen (outlined edges) square) × (InwardOn (looked .inward) screen edges square) ⌝ }
     ensures { λ _. ⌜ WithOnes (TouchedIn screen (outlined edges) square) (now (map .entry)) (now (map .exit)) ⌝ }
 {
-    let cover = square_cover(screen, around, edges, square);
+    let cover = looked.cover;
     if !touch::is_touched(cover) {
         return;
     }
@@ -141,9 +173,29 @@ fn fill(screen: Screen, around: Bounds, edges: Edges, square: Square, map: &mut 
         set_tiles(screen, square, map);
         return;
     }
+    let known = looked.inward;
+    fill_squares(screen, around, edges, known, first_quarter(square), 4, map);
+}
+
+// The same of so many of the four squares of which this is the first. Edges that are known to have them all on their inner side are not looked at.
+fn fill_squares(
+    screen: Screen,
+    around: Bounds,
+    edges: Edges,
+    known: Inward,
+    first: Square,
+    count: u32,
+    map: &mut [u8],
+)
+    requires { ⌜ (Allowed screen) × (Outline edges) × (around ≡ bounds (starts edges)) × (count ≤ 4) × (tiles screen ≤ length (now map)) ⌝ }
+    requires { ⌜ ((k : ℕ) → k < count → Small (besideOf first k) × InwardOn known screen edges (besideOf first k)) ⌝ }
+    ensures { λ _. ⌜ WithOnes (TouchedInFirst screen (outlined edges) first count) (now (map .entry)) (now (map .exit)) ⌝ }
+{
     let mut k = 0;
-    while k < 4 {
-        fill(screen, around, edges, quarter(square, k), map);
+    while k < count {
+        let square = beside(first, k);
+        let looked = square_look(screen, around, edges, known, square);
+        fill_square(screen, around, edges, looked, square, map);
         k += 1;
     }
 }
@@ -181,11 +233,18 @@ fn map_touched(screen: Screen, shape: Shape, map: &mut [u8])
     set_bytes(map, 0, wide(screen::tiles_of(screen)), 0);
     let vertices = touch::three_of(shape);
     let around = touch::bounds_of(vertices);
-    fill(
+    let known = Inward {
+        ab: false,
+        bc: false,
+        ca: false,
+    };
+    fill_squares(
         screen,
         around,
         touch::edges_of(vertices),
+        known,
         square_of(screen),
+        1,
         map,
     );
 }

@@ -103,7 +103,7 @@ pub edges-range : {t : Three} → AllPlaced t → EdgesRange (edgesOf t)
 edges-range {t} p =
     record { ab = edge-range (t .c) (p .a) (p .b); bc = edge-range (t .a) (p .b) (p .c); ca = edge-range (t .b) (p .c) (p .a) }
 
-row-edge-range : {e : Edge} {top bottom : ℤ} → EdgeRange e → Within 524288 top → Within 524288 bottom → RowEdgeRange (rowEdge e top bottom)
+pub row-edge-range : {e : Edge} {top bottom : ℤ} → EdgeRange e → Within 524288 top → Within 524288 bottom → RowEdgeRange (rowEdge e top bottom)
 row-edge-range r t b =
     record {
       x = r .x;

@@ -4,3 +4,4 @@ pub mod Edges
 pub mod Cover
 pub mod Inner
 pub mod Marked
+pub mod Look

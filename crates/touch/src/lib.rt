@@ -1,12 +1,14 @@
 // How a shape covers a closed rectangle: whether its bounding box meets it, and exactly, by the corners of the rectangle: apart, partly or wholly.
 // The exact test comes in parts, so that what is the same for all rectangles, or for those of a row, is computed once.
 ghost use mathlib.Core.Path.{_≡_};
+ghost use mathlib.Core.Bool.{true};
 ghost use Rattle.numbers.specs.Says.{Says};
 ghost use Rattle.screen.specs.Rectangle.{Proper, HasArea};
 ghost use Rattle.shape.specs.Shape.{InRange, Placed};
 ghost use Rattle.touch.specs.Corner.{three, triangle, lesser, greater, bounds, Overlap, Box};
 ghost use Rattle.touch.specs.Edges.{AllPlaced, edgeOf, edgesOf, starts, Outline, rowEdge, rowEdges, Within, EdgeRange, EdgesRange, RowEdgeRange, RowEdgesRange};
 ghost use Rattle.touch.specs.Cover.{CoverSays, BoxCoverSays, isTouched, isWhole};
+ghost use Rattle.touch.specs.Look.{OnSideOf, SideSays, InwardOf, wholeOrPart};
 ghost use Rattle.touch.specs.Inner.{AllApart, AllOnSide, cornersAt, endsAt, Outer, Inner, CoverAt};
 use screen::Rectangle;
 use shape::Shape;
@@ -71,6 +73,25 @@ struct Corners {
     q: i64,
     r: i64,
     s: i64,
+}
+
+// On which side of an edge a rectangle lies: outer where the edge separates it from the shape, inner where it lies on the side of the third vertex.
+pub struct Side {
+    pub outer: bool,
+    pub inner: bool,
+}
+
+// Which edges of a shape have a rectangle on their inner side.
+pub struct Inward {
+    pub ab: bool,
+    pub bc: bool,
+    pub ca: bool,
+}
+
+// What a look at a rectangle tells: how the shape covers it, and edges that have it on their inner side.
+pub struct Looked {
+    pub cover: Cover,
+    pub inward: Inward,
 }
 
 // How a shape covers a rectangle: it touches it nowhere, or not all four corners are points of it, or all four are.
@@ -352,16 +373,75 @@ pub fn corner_cover(shape: Shape, rectangle: Rectangle) -> Cover
     }
 }
 
-// How the shape of the edges, whose bounding box is around, covers the rectangle, as `corner_cover` says it of a shape.
-pub fn outline_cover(around: Bounds, edges: Edges, rectangle: Rectangle) -> Cover
-    requires { ⌜ (Outline edges) × (around ≡ bounds (starts edges)) × (Proper rectangle) × (HasArea rectangle) ⌝ }
-    ensures { λ r. ⌜ CoverSays r (triangle (starts edges)) rectangle ⌝ }
+// Wholly for yes, partly for no.
+fn whole_or_part(whole: bool) -> Cover
+    ensures { λ r. ⌜ r ≡ wholeOrPart whole ⌝ }
 {
-    if overlap(around, rectangle) {
-        let in_row = row_edges(edges, rectangle.top, rectangle.bottom);
-        cover_at(in_row, rectangle.left, rectangle.right)
-    } else {
-        Cover::Apart
+    if whole { Cover::Wholly } else { Cover::Partly }
+}
+
+// On which side of the edge the rectangle lies; where that is known to be the inner one, nothing is computed.
+fn side_at(edge: Edge, rectangle: Rectangle, known: bool) -> Side
+    requires { ⌜ (EdgeRange edge) × (Proper rectangle) × (known ≡ true → OnSideOf edge rectangle) ⌝ }
+    ensures { λ r. ⌜ SideSays r edge rectangle ⌝ }
+{
+    if known {
+        return Side {
+            outer: false,
+            inner: true,
+        };
+    }
+    let row = row_edge(edge, rectangle.top, rectangle.bottom);
+    let ends = ends_at(row, rectangle.left, rectangle.right);
+    Side {
+        outer: outer(row, ends),
+        inner: inner(row, ends),
+    }
+}
+
+// How the shape of the edges, whose bounding box is around, covers the rectangle; edges that are known to have it on their inner side are not looked at.
+pub fn look(around: Bounds, edges: Edges, known: Inward, rectangle: Rectangle) -> Looked
+    requires { ⌜ (Outline edges) × (around ≡ bounds (starts edges)) × (Proper rectangle) × (HasArea rectangle) ⌝ }
+    requires { ⌜ InwardOf known edges rectangle ⌝ }
+    ensures cover { λ r. ⌜ CoverSays (r .cover) (triangle (starts edges)) rectangle ⌝ }
+    ensures inward { λ r. ⌜ InwardOf (r .inward) edges rectangle ⌝ }
+{
+    let cover = Cover::Apart;
+    if !overlap(around, rectangle) {
+        return Looked {
+            cover,
+            inward: known,
+        };
+    }
+    let ab = side_at(edges.ab, rectangle, known.ab);
+    if ab.outer {
+        return Looked {
+            cover,
+            inward: known,
+        };
+    }
+    let bc = side_at(edges.bc, rectangle, known.bc);
+    if bc.outer {
+        return Looked {
+            cover,
+            inward: known,
+        };
+    }
+    let ca = side_at(edges.ca, rectangle, known.ca);
+    if ca.outer {
+        return Looked {
+            cover,
+            inward: known,
+        };
+    }
+    let inward = Inward {
+        ab: ab.inner,
+        bc: bc.inner,
+        ca: ca.inner,
+    };
+    Looked {
+        cover: whole_or_part((ab.inner & bc.inner) & ca.inner),
+        inward,
     }
 }
 

@@ -1,17 +1,19 @@
 -- `quarters::map_touched` meets its contract: over zeros, the square that holds the grid gets ones where the shape, as the triangle of its vertices, touches.
-use mathlib.Core.Path.{sym, ap, subst, _∙_}
+use mathlib.Core.Path.{_≡_, sym, ap, subst, _∙_}
 use Prim.Native.Nat.{ℕ}
 use native.Mathlib.Omega.{arith}
 use Rattle.shape.specs.declared.Shape.{Shape}
 use Rattle.touch.specs.declared.Edges.{Edges}
-use Rattle.touch.specs.Corner.{bounds}
+use Rattle.touch.specs.Corner.{three, bounds}
 use Rattle.touch.specs.Edges.{AllPlaced, edgesOf, starts, Outline}
 use Rattle.touch.proofs.Sizes.{three-placed, outline}
 use Rattle.touch.proofs.Weights.{touches-as-triangle}
 use Rattle.walk.specs.Row.{outlined}
-use Rattle.quarters.specs.Square.{TouchedIn}
+use Rattle.quarters.specs.declared.Square.{Square}
+use Rattle.quarters.specs.Square.{besideOf, TouchedInFirst, Small}
 use Rattle.quarters.specs.Map.{BytesSet, WithOnes}
-use Rattle.quarters.proofs.Ones.{ones-iff}
+use Rattle.quarters.proofs.Ones.{ones-iff, first-alone, one-square}
+use Rattle.quarters.proofs.Inward.{none-inward}
 use Rattle.quarters.proofs.Mapped.{mapped}
 use borrow.Author.Needs.{needs}
 use Rattle.quarters.proofs.map_touched.Statement.{statement}
@@ -44,25 +46,33 @@ edges-of-requires c κs = placed (c .before)
 square-of-requires : tie.Need-square-of-requires
 square-of-requires c κs = c .before .before .before .before .before .before .before .before .before .before .pre .0
 
-fill-requires : tie.Need-fill-requires
-fill-requires c κs =
+fill-squares-requires : tie.Need-fill-squares-requires
+fill-squares-requires c κs =
     let e = c .before .before in
     let v = e .before .before in
     let s = v .before .before .before .before .before .before .before .before in
     let edges = sym (e .edges-of .ensures) in
     let size = v .before .before .before .set-bytes .ensures .size in
-    let room = s .pre .2 in (
-      s .pre .0,
-      subst Outline edges (outline (placed v)),
-      e .before .bounds-of .ensures ∙ ap (λ (d : Edges). bounds (starts d)) edges,
-      c .before .square-of .ensures .small,
-      omega arith,
+    let room = s .pre .2 in
+    let q : Square = c .before .square-of .result in (
+      (
+        s .pre .0,
+        subst Outline edges (outline (placed v)),
+        e .before .bounds-of .ensures ∙ ap (λ (d : Edges). bounds (starts d)) edges,
+        omega arith,
+        omega arith,
+      ),
+      (λ k l.
+      let z : k ≡ 0 = omega arith in (
+        subst Small (sym (ap (besideOf q) z ∙ first-alone (s .args .screen) (s .args .shape) q)) (c .before .square-of .ensures .small),
+        none-inward (s .args .screen) (e .edges-of .result) (besideOf q k),
+      )),
     )
 
 same-length : tie.Need-same-length
 same-length c =
     let f = c .before .before in
-    f .fill .ensures .size ∙ f .before .before .before .before .before .before .before .before .set-bytes .ensures .size
+    f .fill-squares .ensures .size ∙ f .before .before .before .before .before .before .before .before .set-bytes .ensures .size
 
 returns : tie.Need-returns
 returns c =
@@ -76,9 +86,11 @@ returns c =
     let cleared = b .set-bytes .last .0 in
     let zeros = subst (λ (n : ℕ). BytesSet 0 0 n (s .args .map .now) cleared) (b .before .wide .ensures ∙ b .before .before .tiles-of .ensures) (b .set-bytes .ensures) in
     let edges = f .before .before .before .edges-of .ensures ∙ ap edgesOf (v .three-of .ensures) in
-    let ones = subst (λ (e : Edges). WithOnes (TouchedIn d (outlined e) (q .result)) cleared (f .fill .last .1 .1 .1 .1 .0)) edges (f .fill .ensures) in
+    let first = f .fill-squares .last .1 .1 .1 .1 .1 .1 .0 in
+    let ones = subst (λ (e : Edges). WithOnes (TouchedInFirst d (outlined e) (q .result) 1) cleared first) edges (f .fill-squares .ensures) in
     mapped d (s .pre .0) shape (q .ensures) zeros
-    (ones-iff (λ t h. (h .0, touches-as-triangle shape .1 (h .1))) (λ t h. (h .0, touches-as-triangle shape .0 (h .1))) ones)
+    (ones-iff (λ t h. (h .0, touches-as-triangle shape .1 (h .1))) (λ t h. (h .0, touches-as-triangle shape .0 (h .1)))
+    (one-square d (outlined (edgesOf (three shape))) (q .result) ones))
 
 pub map-touched-spec : {M : Type 1} → statement M
 map-touched-spec =
@@ -91,6 +103,6 @@ map-touched-spec =
     bounds-of-requires
     edges-of-requires
     square-of-requires
-    fill-requires
+    fill-squares-requires
     same-length
     returns)

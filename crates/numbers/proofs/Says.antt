@@ -4,7 +4,7 @@ use mathlib.Core.Bool.{Bool, true, false, not, _&&_}
 use lib.Dec.{T}
 use Rattle.numbers.specs.Says.{Says}
 
-true≢false : true ≡ false → ⊥
+pub true≢false : true ≡ false → ⊥
 true≢false e = subst T e tt
 
 module _ {P : Type 0} where

@@ -1,11 +1,11 @@
 -- Edges that have a square on their inner side have its quarters there: the rectangle of a quarter lies within that of the square.
-use mathlib.Core.Path.{_≡_, sym, subst}
+use mathlib.Core.Path.{sym}
 use mathlib.Core.Bool.{true, false}
-use Prim.Native.Nat.{ℕ, _+_, _*_, _-_, _/_, _%_, _^_, _≤_, _<_}
+use Prim.Native.Nat.{ℕ, _-_, _/_, _%_, _^_, _≤_, _<_}
 use native.Mathlib.Omega.{arith}
-use lib.Dec.{T}
+use Rattle.numbers.proofs.Says.{true≢false}
 use Rattle.screen.specs.declared.Screen.{Screen}
-use Rattle.screen.specs.Screen.{Allowed, columns, rows}
+use Rattle.screen.specs.Screen.{Allowed}
 use Rattle.screen.specs.Rectangle.{Inside}
 use Rattle.screen.proofs.Laws.{near-rises, far-rises}
 use Rattle.touch.specs.declared.Edges.{Edges}
@@ -18,10 +18,7 @@ use Rattle.quarters.proofs.Ones.{bit≤, halves}
 
 -- no edge is named
 pub none-inward : (d : Screen) (e : Edges) (q : Square) → InwardOn (record { ab = false; bc = false; ca = false }) d e q
-none-inward d e q g = record { ab = λ t. absurd (no-edge t); bc = λ t. absurd (no-edge t); ca = λ t. absurd (no-edge t) }
-  where
-    no-edge : false ≡ true → ⊥
-    no-edge t = subst T (sym t) tt
+none-inward d e q g = record { ab = λ t. absurd (true≢false (sym t)); bc = λ t. absurd (true≢false (sym t)); ca = λ t. absurd (true≢false (sym t)) }
 
 module _ (d : Screen) (a : Allowed d) (q : Square) (n : 0 < q .exponent) {k : ℕ} (k< : k < 4) (g : StartsOnGrid d (besideOf (firstQuarter q) k)) where
   abbrev part : Square

@@ -7,11 +7,12 @@ use mathlib.Core.List.{List}
 use Prim.Native.Nat.{ℕ, _+_, _-_, _^_, _≤_, _<_}
 use native.Mathlib.Omega.{arith}
 use lib.IntN.{ℤ}
-use lib.Signed.{_≤ℤ_, _<ℤ_}
-use lib.Dec.{T, eqb}
+use lib.Signed.{_≤ℤ_}
+use lib.Dec.{eqb}
 use lib.Pow.{pow-pos}
 use borrow.Author.Tests.{eqb-true, eqb-false}
-use Rattle.numbers.proofs.Diff.{diff-any, diff-lt, le-diff, lt-diff, ≤ℤ-trans, times-rises}
+use Rattle.numbers.proofs.Says.{true≢false}
+use Rattle.numbers.proofs.Diff.{≤ℤ-trans, times-rises}
 use Rattle.screen.specs.declared.Screen.{Screen}
 use Rattle.screen.specs.declared.Rectangle.{Rectangle}
 use Rattle.screen.specs.Screen.{Allowed, columns, rows, columnOf, rowOf, tileAt}
@@ -23,16 +24,11 @@ use Rattle.shape.specs.Shape.{vertices}
 use Rattle.touch.specs.declared.Cover as answer
 use Rattle.touch.specs.Touches.{total, weighted, Touches}
 use Rattle.touch.specs.Cover.{Wholly, CoverSays, isTouched, isWhole}
+use Rattle.touch.proofs.Extremes.{≤ℤ-<ℤ-trans}
 use Rattle.touch.proofs.Gaps.{row-has-no-gap, column-has-no-gap}
 use Rattle.touch.proofs.Points.{point-is-touched}
 use Rattle.quarters.specs.declared.Square.{Square}
 use Rattle.quarters.specs.Square.{InSquare, TouchedIn, SomeTouchedIn, StartsOnGrid, pastOf, squareRectangle, Holds, SquareSays}
-
-≤ℤ-<ℤ : {x y z : ℤ} → x ≤ℤ y → y <ℤ z → x <ℤ z
-≤ℤ-<ℤ {x} {y} {z} h k = diff-lt (diff-any x) (diff-any z) (omega (arith, le-diff (diff-any x) (diff-any y) h, lt-diff (diff-any y) (diff-any z) k))
-
-true≢false : true ≡ false → ⊥
-true≢false e = subst T e tt
 
 -- ---- the tiles of a square along an axis, from the first to the last on the grid
 
@@ -148,8 +144,8 @@ module _ (d : Screen) (a : Allowed d) (q : Square) (g : StartsOnGrid d q) where
 
   pub square-has-area : HasArea (squareRectangle d q)
   square-has-area = record {
-    wide = ≤ℤ-<ℤ (near-rises (d .width) (d .s) (last≥ (q .exponent) (g .column))) (near<far (d .width) (d .s) (last< (q .exponent) (g .column)));
-    high = ≤ℤ-<ℤ (near-rises (d .height) (d .s) (last≥ (q .exponent) (g .row))) (near<far (d .height) (d .s) (last< (q .exponent) (g .row)));
+    wide = ≤ℤ-<ℤ-trans (near-rises (d .width) (d .s) (last≥ (q .exponent) (g .column))) (near<far (d .width) (d .s) (last< (q .exponent) (g .column)));
+    high = ≤ℤ-<ℤ-trans (near-rises (d .height) (d .s) (last≥ (q .exponent) (g .row))) (near<far (d .height) (d .s) (last< (q .exponent) (g .row)));
   }
 
 -- ---- off the grid, and where nothing is left to split

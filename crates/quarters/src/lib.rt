@@ -8,7 +8,7 @@ ghost use Rattle.shape.specs.Shape.{InRange};
 ghost use Rattle.touch.specs.Corner.{bounds};
 ghost use Rattle.touch.specs.Edges.{starts, Outline};
 ghost use Rattle.walk.specs.Row.{outlined};
-ghost use Rattle.quarters.specs.Square.{InSquare, TouchedIn, StartsOnGrid, pastOf, squareRectangle, SquareSays, InwardOn, besideOf, firstQuarter, TouchedInFirst, Small, Smallest, HoldsGrid};
+ghost use Rattle.quarters.specs.Square.{InSquare, StartsOnGrid, pastOf, squareRectangle, SquareSays, InwardOn, besideOf, firstQuarter, TouchedInFirst, Small, Smallest, HoldsGrid};
 ghost use Rattle.quarters.specs.Map.{Mapped, MapSays, BytesSet, RowSet, WithOnes};
 use numbers::wide;
 use screen::Rectangle;
@@ -65,7 +65,13 @@ fn rectangle_of(screen: Screen, square: Square) -> Rectangle
 
 // How the shape of the edges, whose bounding box is around, covers the tiles of a square that are on the grid, taken as one; apart where there are none. Edges
 // that are known to have the square on their inner side are not looked at.
-fn square_look(screen: Screen, around: Bounds, edges: Edges, known: Inward, square: Square) -> Looked
+fn square_look(
+    screen: Screen,
+    around: Bounds,
+    edges: Edges,
+    known: Inward,
+    square: Square,
+) -> Looked
     requires { ⌜ (Allowed screen) × (Outline edges) × (around ≡ bounds (starts edges)) × (square .exponent ≤ 9) ⌝ }
     requires { ⌜ InwardOn known screen edges square ⌝ }
     ensures cover { λ r. ⌜ SquareSays (r .cover) screen (outlined edges) square ⌝ }
@@ -151,33 +157,8 @@ fn first_quarter(square: Square) -> Square
     }
 }
 
-// Writes 1 for each tile of the square that the shape of the edges touches, and no other byte, by what a look at the square told. The shape's bounding box is
-// around.
-fn fill_square(
-    screen: Screen,
-    around: Bounds,
-    edges: Edges,
-    looked: Looked,
-    square: Square,
-    map: &mut [u8],
-)
-    requires { ⌜ (Allowed screen) × (Outline edges) × (around ≡ bounds (starts edges)) × (Small square) × (tiles screen ≤ length (now map)) ⌝ }
-    requires { ⌜ (SquareSays (looked .cover) screen (outlined edges) square) × (InwardOn (looked .inward) screen edges square) ⌝ }
-    ensures { λ _. ⌜ WithOnes (TouchedIn screen (outlined edges) square) (now (map .entry)) (now (map .exit)) ⌝ }
-{
-    let cover = looked.cover;
-    if !touch::is_touched(cover) {
-        return;
-    }
-    if touch::is_whole(cover) | (square.exponent == 0) {
-        set_tiles(screen, square, map);
-        return;
-    }
-    let known = looked.inward;
-    fill_squares(screen, around, edges, known, first_quarter(square), 4, map);
-}
-
-// The same of so many of the four squares of which this is the first. Edges that are known to have them all on their inner side are not looked at.
+// Writes 1 for each tile that the shape of the edges touches of so many of the four squares of which this is the first, and no other byte. The shape's bounding
+// box is around; edges that are known to have all these squares on their inner side are not looked at.
 fn fill_squares(
     screen: Screen,
     around: Bounds,
@@ -195,7 +176,15 @@ fn fill_squares(
     while k < count {
         let square = beside(first, k);
         let looked = square_look(screen, around, edges, known, square);
-        fill_square(screen, around, edges, looked, square, map);
+        let cover = looked.cover;
+        if touch::is_touched(cover) {
+            if touch::is_whole(cover) | (square.exponent == 0) {
+                set_tiles(screen, square, map);
+            } else {
+                let inward = looked.inward;
+                fill_squares(screen, around, edges, inward, first_quarter(square), 4, map);
+            }
+        }
         k += 1;
     }
 }

@@ -78,7 +78,7 @@ module _ (P : ℤ → Type 0) (n f u l : ℤ) where
     let q = le-diff (diff-any y) (diff-any z) k in
     diff-lt (diff-any x) (diff-any z) (omega arith)
 
-≤ℤ-<ℤ-trans : {x y z : ℤ} → x ≤ℤ y → y <ℤ z → x <ℤ z
+pub ≤ℤ-<ℤ-trans : {x y z : ℤ} → x ≤ℤ y → y <ℤ z → x <ℤ z
 ≤ℤ-<ℤ-trans {x} {y} {z} h k =
     let p = le-diff (diff-any x) (diff-any y) h in
     let q = lt-diff (diff-any y) (diff-any z) k in

@@ -2,7 +2,6 @@
 use Prim.Native.Nat.{_+_, _*_, _/_, _%_}
 use native.Mathlib.Omega.{arith}
 use Rattle.quarters.proofs.Ones.{bit≤}
-use borrow.Author.Needs.{needs}
 use Rattle.quarters.proofs.beside.Statement.{statement}
 use Rattle.quarters.proofs.beside.Tie as tie
 

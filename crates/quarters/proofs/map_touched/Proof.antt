@@ -63,10 +63,10 @@ fill-squares-requires c κs =
         omega arith,
       ),
       (λ k l.
-      let z : k ≡ 0 = omega arith in (
-        subst Small (sym (ap (besideOf q) z ∙ first-alone (s .args .screen) (s .args .shape) q)) (c .before .square-of .ensures .small),
-        none-inward (s .args .screen) (e .edges-of .result) (besideOf q k),
-      )),
+          let z : k ≡ 0 = omega arith in (
+            subst Small (sym (ap (besideOf q) z ∙ first-alone (s .args .screen) (s .args .shape) q)) (c .before .square-of .ensures .small),
+            none-inward (s .args .screen) (e .edges-of .result) (besideOf q k),
+          )),
     )
 
 same-length : tie.Need-same-length

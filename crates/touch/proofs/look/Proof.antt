@@ -1,6 +1,6 @@
 -- `touch::look` meets its contract. Where the box is met, the first edge that separates decides; where none does, all three have to have the corners on their inner
 -- side. Where the box is not met, nothing touches.
-use mathlib.Core.Path.{_≡_, refl, sym, subst, _∙_}
+use mathlib.Core.Path.{refl, sym, subst}
 use mathlib.Core.Bool.{Bool, true, false, _&&_}
 use lib.IntN.{ℤ}
 use borrow.Author.Tests.{not-true, not-false}

@@ -1,14 +1,10 @@
 -- `touch::side_at` meets its contract: an edge that has the rectangle on its inner side does not separate it, and of another its least and greatest values tell.
 use mathlib.Core.Path.{_≡_, sym, subst, _∙_}
-use mathlib.Core.Bool.{Bool}
-use lib.IntN.{ℤ}
 use mir.Syntax.{w64}
 use Rattle.numbers.specs.Says.{Says}
 use Rattle.numbers.proofs.Is.{kept-is}
 use Rattle.numbers.proofs.Says.{says-yes, says-no, says-iff}
 use Rattle.screen.specs.declared.Rectangle.{Rectangle}
-use Rattle.touch.specs.declared.Edge.{Edge}
-use Rattle.touch.specs.declared.RowEdge.{RowEdge}
 use Rattle.touch.specs.Edges.{rowEdge, Within, RowEdgeRange}
 use Rattle.touch.specs.Inner.{endsAt, Outer, Inner}
 use Rattle.touch.proofs.Sizes.{row-edge-range, left-within, right-within, top-within, bottom-within}

@@ -140,11 +140,12 @@ fill-squares-fill-squares-requires t c κs =
       omega arith,
       (
         (p .0 .0, p .0 .1, p .0 .2, omega arith, omega arith),
-        (λ k h. (
-          subst (λ (r : Square). Small (besideOf r k)) (sym e) (small-quarter q n (small t b) h),
-          subst (λ (r : Square). InwardOn w d (s .args .edges) (besideOf r k)) (sym e)
-              (inward-quarter d (p .0 .0) w (s .args .edges) q n h (look .square-look .ensures .1)),
-        )),
+        (λ k h.
+            let k< : k < 4 = omega arith in (
+              subst (λ (r : Square). Small (besideOf r k)) (sym e) (small-quarter q n (small t b) k<),
+              subst (λ (r : Square). InwardOn w d (s .args .edges) (besideOf r k)) (sym e)
+                  (inward-quarter d (p .0 .0) w (s .args .edges) q n k< (look .square-look .ensures .1)),
+            )),
       ),
     )
 

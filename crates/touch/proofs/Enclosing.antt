@@ -1,5 +1,5 @@
--- In a row, what lies between two intervals that are enclosed is enclosed: along a row an edge value rises throughout or falls throughout. Along a column it does
--- too, so that an edge which has a rectangle on its inner side has each rectangle within it there.
+-- In a row, what lies between two intervals that are enclosed is enclosed: along a row an edge value rises throughout or falls throughout. Along a column it
+-- does too, so that an edge which has a rectangle on its inner side has each rectangle within it there.
 use native.Mathlib.Omega.{arith}
 use native.Mathlib.Nat.{mul-le-mul-left}
 use Prim.Native.Nat.{ℕ, suc}

@@ -1,5 +1,5 @@
--- The proof of the cycle of calls {fill_squares}: the side's exponent falls. A square that is not touched has no touched tile; one that is wholly covered, or is a
--- single tile, has no other; and any other has the touched tiles of its four quarters. An edge that has the square on its inner side has each quarter there too.
+-- The proof of the cycle of calls {fill_squares}: the side's exponent falls. A square that is not touched has no touched tile; one that is wholly covered, or is
+-- a single tile, has no other; and any other has the touched tiles of its four quarters. An edge that has the square on its inner side has its quarters there.
 use mathlib.Core.Path.{_≡_, ap, sym, subst, _∙_}
 use mathlib.Core.Bool.{Bool, _||_}
 use mathlib.Core.Logic.{⊎-elim}
@@ -17,9 +17,9 @@ use Rattle.quarters.specs.Map.{WithOnes}
 use Rattle.quarters.proofs.Touched.{none-touched, all-touched, to-split}
 use Rattle.quarters.proofs.Ones.{ones-none, ones-iff, small-quarter, no-square, square-more, all-quarters}
 use Rattle.quarters.proofs.Inward.{inward-quarter}
-use Rattle.quarters.proofs.fill_squares.Reads as fill-squares
-use Rattle.quarters.proofs.fill_squares.Kinds as fill-squares-kinds
-use Rattle.quarters.proofs.+fill_squares.Lts-fill_squares as fill-squares-lts
+use Rattle.quarters.proofs.fill_squares.Reads as reads
+use Rattle.quarters.proofs.fill_squares.Kinds as kinds
+use Rattle.quarters.proofs.+fill_squares.Lts-fill_squares as lts
 use Rattle.quarters.proofs.beside.Reads as beside-reads
 use Rattle.quarters.proofs.first_quarter.Reads as first-quarter-reads
 use Rattle.quarters.proofs.set_tiles.Reads as set-tiles-reads
@@ -29,18 +29,18 @@ use Rattle.touch.proofs.is_whole.Reads as is-whole-reads
 use Rattle.quarters.proofs.+fill_squares.{statement}
 use Rattle.quarters.proofs.+fill_squares.Tie.{close}
 
-abbrev μ-fill-squares : Measures 1 fill-squares-kinds.ps ℕ
-μ-fill-squares κs a = a .1 .1 .1 .1 .0 .exponent
+abbrev μ-exponent : Measures 1 kinds.ps ℕ
+μ-exponent κs a = a .1 .1 .1 .1 .0 .exponent
 
 -- what `fill_squares` is given at the measure t, and what a call of it asks below t
-abbrev fill-squares-at : ℕ → In 1 fill-squares-kinds.ps
-fill-squares-at t = and 1 fill-squares-kinds.ps (is 1 fill-squares-kinds.ps μ-fill-squares t) fill-squares.Pre
+abbrev given-at : ℕ → In 1 kinds.ps
+given-at t = and 1 kinds.ps (is 1 kinds.ps μ-exponent t) reads.Pre
 
-abbrev fill-squares-below : ℕ → In 1 fill-squares-kinds.ps
-fill-squares-below t = and 1 fill-squares-kinds.ps (falls 1 fill-squares-kinds.ps _<_ μ-fill-squares t) fill-squares.Pre
+abbrev asked-below : ℕ → In 1 kinds.ps
+asked-below t = and 1 kinds.ps (falls 1 kinds.ps _<_ μ-exponent t) reads.Pre
 
 -- the contracts of what it calls
-abbrev known : ℕ → fill-squares-lts.Claims
+abbrev known : ℕ → lts.Claims
 known t = (
   beside-reads.Asked,
   beside-reads.Learnt,
@@ -54,35 +54,35 @@ known t = (
   set-tiles-reads.Learnt,
   first-quarter-reads.Asked,
   first-quarter-reads.Learnt,
-  fill-squares-below t,
-  fill-squares.Post,
+  asked-below t,
+  reads.Post,
 )
 
-abbrev fill-squares-Inv-loop : fill-squares-lts.InvT-loop
-fill-squares-Inv-loop screen around edges known first count map₀ k₀ map k = (k ≤ count) × WithOnes (TouchedInFirst screen (outlined edges) first k) map₀ map
+abbrev Inv-loop : lts.InvT-loop
+Inv-loop screen around edges known first count map₀ k₀ map k = (k ≤ count) × WithOnes (TouchedInFirst screen (outlined edges) first k) map₀ map
 
-abbrev fill-squares-μ-loop : fill-squares-lts.MeasureT-loop
-fill-squares-μ-loop screen around edges known first count map₀ k₀ map k = count - k
+abbrev μ-loop : lts.MeasureT-loop
+μ-loop screen around edges known first count map₀ k₀ map k = count - k
 
-fill-squares-loop-holds : (t : ℕ) → fill-squares-lts.Need-loop-holds (known t) (fill-squares-at t) fill-squares.Post fill-squares-Inv-loop fill-squares-μ-loop
-fill-squares-loop-holds t c =
+loop-holds : (t : ℕ) → lts.Need-loop-holds (known t) (given-at t) reads.Post Inv-loop μ-loop
+loop-holds t c =
     let s = c .before in
     (omega arith, no-square (s .args .screen) (outlined (s .args .edges)) (s .args .first) (s .args .map .now))
 
-fill-squares-beside-requires : (t : ℕ) → fill-squares-lts.Need-beside-requires (known t) (fill-squares-at t) fill-squares.Post fill-squares-Inv-loop fill-squares-μ-loop
-fill-squares-beside-requires t c κs =
+beside-requires : (t : ℕ) → lts.Need-beside-requires (known t) (given-at t) reads.Post Inv-loop μ-loop
+beside-requires t c κs =
     let p = c .before .before .before .pre .1 in
     let n = p .0 .3 in
     (p .1 (c .before .loop .k) (c .loop-test .taken) .0, omega arith)
 
 -- the square lies among 512 by 512 tiles
-small : (t : ℕ) (c : fill-squares-lts.After-beside (known t) (fill-squares-at t) fill-squares.Post fill-squares-Inv-loop fill-squares-μ-loop) → Small (c .beside .result)
+small : (t : ℕ) (c : lts.After-beside (known t) (given-at t) reads.Post Inv-loop μ-loop) → Small (c .beside .result)
 small t c =
     let l = c .before .before in
     subst Small (sym (c .beside .ensures)) (l .before .before .pre .1 .1 (l .loop .k) (c .before .loop-test .taken) .0)
 
-fill-squares-square-look-requires : (t : ℕ) → fill-squares-lts.Need-square-look-requires (known t) (fill-squares-at t) fill-squares.Post fill-squares-Inv-loop fill-squares-μ-loop
-fill-squares-square-look-requires t c κs =
+square-look-requires : (t : ℕ) → lts.Need-square-look-requires (known t) (given-at t) reads.Post Inv-loop μ-loop
+square-look-requires t c κs =
     let l = c .before .before in
     let s = l .before .before in
     let p = s .pre .1 in (
@@ -91,14 +91,14 @@ fill-squares-square-look-requires t c κs =
           (p .1 (l .loop .k) (c .before .loop-test .taken) .1),
     )
 
-fill-squares-is-touched-requires : (t : ℕ) → fill-squares-lts.Need-is-touched-requires (known t) (fill-squares-at t) fill-squares.Post fill-squares-Inv-loop fill-squares-μ-loop
-fill-squares-is-touched-requires t c κs = search needs
+is-touched-requires : (t : ℕ) → lts.Need-is-touched-requires (known t) (given-at t) reads.Post Inv-loop μ-loop
+is-touched-requires t c κs = search needs
 
-fill-squares-is-whole-requires : (t : ℕ) → fill-squares-lts.Need-is-whole-requires (known t) (fill-squares-at t) fill-squares.Post fill-squares-Inv-loop fill-squares-μ-loop
-fill-squares-is-whole-requires t c κs = search needs
+is-whole-requires : (t : ℕ) → lts.Need-is-whole-requires (known t) (given-at t) reads.Post Inv-loop μ-loop
+is-whole-requires t c κs = search needs
 
-fill-squares-set-tiles-requires : (t : ℕ) → fill-squares-lts.Need-set-tiles-requires (known t) (fill-squares-at t) fill-squares.Post fill-squares-Inv-loop fill-squares-μ-loop
-fill-squares-set-tiles-requires t c κs =
+set-tiles-requires : (t : ℕ) → lts.Need-set-tiles-requires (known t) (given-at t) reads.Post Inv-loop μ-loop
+set-tiles-requires t c κs =
     let b = c .before .before .before .before .before .before .before in
     let l = b .before .before in
     let p = l .before .before .pre .1 .0 in
@@ -107,7 +107,8 @@ fill-squares-set-tiles-requires t c κs =
     (p .0, small t b, omega arith)
 
 -- what is split has a side to halve
-split : (t : ℕ) (c : fill-squares-lts.Else2 (known t) (fill-squares-at t) fill-squares.Post fill-squares-Inv-loop fill-squares-μ-loop) → 0 < c .before .before .before .before .before .before .beside .result .exponent
+split : (t : ℕ) (c : lts.Else2 (known t) (given-at t) reads.Post Inv-loop μ-loop)
+    → 0 < c .before .before .before .before .before .before .beside .result .exponent
 split t c =
     let b = c .before .before .before .before .before .before in
     let s = b .before .before .before .before in
@@ -116,11 +117,11 @@ split t c =
     let look = c .before .before .before .before .before .square-look in
     to-split (s .args .screen) (s .pre .1 .0 .0) (outlined (s .args .edges)) q (look .result .cover) (sym whole ∙ c .if2 .left)
 
-fill-squares-first-quarter-requires : (t : ℕ) → fill-squares-lts.Need-first-quarter-requires (known t) (fill-squares-at t) fill-squares.Post fill-squares-Inv-loop fill-squares-μ-loop
-fill-squares-first-quarter-requires t c κs = split t (c .before)
+first-quarter-requires : (t : ℕ) → lts.Need-first-quarter-requires (known t) (given-at t) reads.Post Inv-loop μ-loop
+first-quarter-requires t c κs = split t (c .before)
 
-fill-squares-fill-squares-requires : (t : ℕ) → fill-squares-lts.Need-fill-squares-requires (known t) (fill-squares-at t) fill-squares.Post fill-squares-Inv-loop fill-squares-μ-loop
-fill-squares-fill-squares-requires t c κs =
+fill-squares-requires : (t : ℕ) → lts.Need-fill-squares-requires (known t) (given-at t) reads.Post Inv-loop μ-loop
+fill-squares-requires t c κs =
     let f = c .before .before .before in
     let look = f .before .before .before .before .before in
     let b = look .before in
@@ -149,14 +150,14 @@ fill-squares-fill-squares-requires t c κs =
       ),
     )
 
-fill-squares-add-k : (t : ℕ) → fill-squares-lts.Need-add-k (known t) (fill-squares-at t) fill-squares.Post fill-squares-Inv-loop fill-squares-μ-loop
-fill-squares-add-k t c = search needs
+add-k : (t : ℕ) → lts.Need-add-k (known t) (given-at t) reads.Post Inv-loop μ-loop
+add-k t c = search needs
 
-fill-squares-loop-less : (t : ℕ) → fill-squares-lts.Need-loop-less (known t) (fill-squares-at t) fill-squares.Post fill-squares-Inv-loop fill-squares-μ-loop
-fill-squares-loop-less t c = search needs
+loop-less : (t : ℕ) → lts.Need-loop-less (known t) (given-at t) reads.Post Inv-loop μ-loop
+loop-less t c = search needs
 
 -- after the look, whatever it told, the touched tiles of the square are written
-written : (t : ℕ) (c : fill-squares-lts.Joined1 (known t) (fill-squares-at t) fill-squares.Post fill-squares-Inv-loop fill-squares-μ-loop)
+written : (t : ℕ) (c : lts.Joined1 (known t) (given-at t) reads.Post Inv-loop μ-loop)
     → let b = c .before .before .before in let l = b .before .before in let s = l .before .before in
     WithOnes (TouchedIn (s .args .screen) (outlined (s .args .edges)) (b .beside .result)) (l .loop .map) (c .if1 .map)
 written t c =
@@ -184,18 +185,18 @@ written t c =
     (λ h. subst become (sym (h .1)) (ones-none (none-touched d a shape q cover (says ∙ h .0 .left) (look .ensures .0)))))
     (c .if1 .came)
 
-fill-squares-loop-again : (t : ℕ) → fill-squares-lts.Need-loop-again (known t) (fill-squares-at t) fill-squares.Post fill-squares-Inv-loop fill-squares-μ-loop
-fill-squares-loop-again t c =
+loop-again : (t : ℕ) → lts.Need-loop-again (known t) (given-at t) reads.Post Inv-loop μ-loop
+loop-again t c =
     let b = c .before .before .before in
     let l = b .before .before in
     let s = l .before .before in
     (omega arith, square-more (s .args .screen) (outlined (s .args .edges)) (s .args .first) (l .loop .inv .1) (rw (b .beside .ensures) at (written t c)))
 
-fill-squares-same-length : (t : ℕ) → fill-squares-lts.Need-same-length (known t) (fill-squares-at t) fill-squares.Post fill-squares-Inv-loop fill-squares-μ-loop
-fill-squares-same-length t c = c .before .loop .inv .1 .size
+same-length : (t : ℕ) → lts.Need-same-length (known t) (given-at t) reads.Post Inv-loop μ-loop
+same-length t c = c .before .loop .inv .1 .size
 
-fill-squares-returns : (t : ℕ) → fill-squares-lts.Need-returns (known t) (fill-squares-at t) fill-squares.Post fill-squares-Inv-loop fill-squares-μ-loop
-fill-squares-returns t c =
+returns : (t : ℕ) → lts.Need-returns (known t) (given-at t) reads.Post Inv-loop μ-loop
+returns t c =
     let l = c .before in
     let s = l .before .before in
     let k : l .loop .k ≡ s .args .count = let i = l .loop .inv .0 in omega arith in
@@ -203,18 +204,18 @@ fill-squares-returns t c =
 
 pub +fill-squares-spec : {M : Type 1} → statement M
 +fill-squares-spec =
-    close μ-fill-squares
-    (λ t. fill-squares-lts.spec (known t) (fill-squares-at t) fill-squares.Post fill-squares-Inv-loop fill-squares-μ-loop
-    (fill-squares-loop-holds t)
-    (fill-squares-beside-requires t)
-    (fill-squares-square-look-requires t)
-    (fill-squares-is-touched-requires t)
-    (fill-squares-is-whole-requires t)
-    (fill-squares-set-tiles-requires t)
-    (fill-squares-first-quarter-requires t)
-    (fill-squares-fill-squares-requires t)
-    (fill-squares-add-k t)
-    (fill-squares-loop-less t)
-    (fill-squares-loop-again t)
-    (fill-squares-same-length t)
-    (fill-squares-returns t))
+    close μ-exponent
+    (λ t. lts.spec (known t) (given-at t) reads.Post Inv-loop μ-loop
+    (loop-holds t)
+    (beside-requires t)
+    (square-look-requires t)
+    (is-touched-requires t)
+    (is-whole-requires t)
+    (set-tiles-requires t)
+    (first-quarter-requires t)
+    (fill-squares-requires t)
+    (add-k t)
+    (loop-less t)
+    (loop-again t)
+    (same-length t)
+    (returns t))

@@ -19,7 +19,10 @@ add-column c =
     omega (arith, bit≤ (s .args .k % 2) (c .before .side-of .result) (omega arith))
 
 mul-row : tie.Need-mul-row
-mul-row c = let s = c .before .before in let l = c .before .side-of .ensures .1 in omega (arith, bit≤ (s .args .k / 2) (c .before .side-of .result) (omega arith))
+mul-row c =
+    let s = c .before .before in
+    let l = c .before .side-of .ensures .1 in
+    omega (arith, bit≤ (s .args .k / 2) (c .before .side-of .result) (omega arith))
 
 add-row : tie.Need-add-row
 add-row c =

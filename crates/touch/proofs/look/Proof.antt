@@ -1,5 +1,5 @@
--- `touch::look` meets its contract. Where the box is met, the first edge that separates decides; where none does, all three have to have the corners on their inner
--- side. Where the box is not met, nothing touches.
+-- `touch::look` meets its contract. Where the box is met, the first edge that separates decides; where none does, all three have to have the corners on their
+-- inner side. Where the box is not met, nothing touches.
 use mathlib.Core.Path.{refl, sym, subst}
 use mathlib.Core.Bool.{Bool, true, false, _&&_}
 use lib.IntN.{ℤ}
@@ -90,10 +90,12 @@ returns-5 c =
     let bc = three .before .side-at2 .ensures in
     let ca = four .before .side-at3 .ensures in
     let row : RowEdges = rowEdges e (q .top) (q .bottom) in
-    let clear : Clear row (q .left) (q .right) = record { ab = ab .outer .no (two .if2 .left); bc = bc .outer .no (three .if3 .left); ca = ca .outer .no (four .if4 .left) } in
+    let clear : Clear row (q .left) (q .right)
+    = record { ab = ab .outer .no (two .if2 .left); bc = bc .outer .no (three .if3 .left); ca = ca .outer .no (four .if4 .left) } in
     let all : Bool = (two .before .side-at .result .inner && three .before .side-at2 .result .inner) && four .before .side-at3 .result .inner in
     let enclosed : Says all (EnclosedAt row (q .left) (q .right))
-    = says-iff (λ h. record { ab = h .0 .0; bc = h .0 .1; ca = h .1 }) (λ h. ((h .ab, h .bc), h .ca)) (says-and (says-and (ab .inner) (bc .inner)) (ca .inner)) in (
+    = says-iff (λ h. record { ab = h .0 .0; bc = h .0 .1; ca = h .1 }) (λ h. ((h .ab, h .bc), h .ca))
+    (says-and (says-and (ab .inner) (bc .inner)) (ca .inner)) in (
       subst (λ (r : answer.Cover). CoverSays r (triangle (starts e)) q) (sym (c .whole-or-part .ensures))
           (told f (wholeOrPart all) (says-whole-or-part row (q .left) (q .right) all enclosed clear)),
       record { ab = ab .inner .yes; bc = bc .inner .yes; ca = ca .inner .yes },

@@ -1,4 +1,4 @@
--- `touch::side_at` meets its contract: an edge that has the rectangle on its inner side does not separate it, and of another its least and greatest values tell.
+-- `touch::side_at` meets its contract: an edge that has the rectangle on its inner side does not separate it; of another the least and the greatest value tell.
 use mathlib.Core.Path.{_≡_, sym, subst, _∙_}
 use mir.Syntax.{w64}
 use Rattle.numbers.specs.Says.{Says}
@@ -74,7 +74,9 @@ returns-2 c =
     let apart = outer-is-apart e (q .left) (q .right) in
     let on-side = inner-is-on-side e (q .left) (q .right) in
     record {
-      outer = says-iff (apart .0) (apart .1) (subst (λ (p : Type 0). p) (λ i. Says (c .before .outer .result) (Outer (row i .third) (same i))) (c .before .outer .ensures));
+      outer =
+          says-iff (apart .0) (apart .1)
+          (subst (λ (p : Type 0). p) (λ i. Says (c .before .outer .result) (Outer (row i .third) (same i))) (c .before .outer .ensures));
       inner = says-iff (on-side .0) (on-side .1) (subst (λ (p : Type 0). p) (λ i. Says (c .inner .result) (Inner (row i .third) (same i))) (c .inner .ensures));
     }
 

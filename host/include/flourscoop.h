@@ -30,8 +30,8 @@
  * STACK, in bytes, as measured, on Arm in an emulator; of those of bin, bin_list and overlaps, 16,384 list the touched
  * tiles; that of map is for a grid of 512 columns or rows, and less for a smaller one
  *               bin     bin_list  overlaps  map    audit  read   high_water  release  corner  box  open, open_two  unit
- *     x86-64    18,928  18,832    17,104    3,440  2,320  2,368  2,352       2,400    480     192  144             16
- *     Arm       18,864  18,800    17,072    3,120  2,288  2,320  2,304       2,304    288     160  128             32
+ *     x86-64    18,928  18,832    17,104    5,856  2,320  2,368  2,352       2,400    480     192  144             16
+ *     Arm       18,864  18,800    17,072    5,824  2,288  2,320  2,304       2,304    288     160  128             32
  *
  * SCREEN AND UNITS
  *   A screen has a width and a height of 1 to 4,096 pixels. A tile is a square of 2^s by 2^s pixels, s from 3 to 6, cut

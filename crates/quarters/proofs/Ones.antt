@@ -79,8 +79,8 @@ RowsBefore d q row t = InSquare d q t × (rowOf d t < row)
 
 module _ (d : Screen) (a : Allowed d) (q : Square) where
   -- the tiles of a row are among those of the screen
-  pub row-room : {row : ℕ} → row < rows d → row * columns d + columns d ≤ tiles d
-  row-room {row} h = let w : columns d * (row + 1) ≤ columns d * rows d = mul-le-mul-left (columns d) (omega arith) in omega arith
+  pub row-among-tiles : {row : ℕ} → row < rows d → row * columns d + columns d ≤ tiles d
+  row-among-tiles {row} h = let w : columns d * (row + 1) ≤ columns d * rows d = mul-le-mul-left (columns d) (omega arith) in omega arith
 
   abbrev past : ℕ
   past = pastOf (columns d) (q .column) (q .exponent)

@@ -28,7 +28,7 @@ use Rattle.touch.proofs.Extremes.{≤ℤ-<ℤ-trans}
 use Rattle.touch.proofs.Gaps.{row-has-no-gap, column-has-no-gap}
 use Rattle.touch.proofs.Points.{point-is-touched}
 use Rattle.quarters.specs.declared.Square.{Square}
-use Rattle.quarters.specs.Square.{InSquare, TouchedIn, SomeTouchedIn, StartsOnGrid, pastOf, squareRectangle, Holds, SquareSays}
+use Rattle.quarters.specs.Square.{InSquare, TouchedIn, SomeTouchedIn, StartsOnGrid, pastOf, squareRectangle, PointIn, SquareSays}
 
 -- ---- the tiles of a square along an axis, from the first to the last on the grid
 
@@ -63,7 +63,7 @@ module _ (d : Screen) (a : Allowed d) (q : Square) (g : StartsOnGrid d q) where
   -- ---- a square is its tiles
 
   module _ (n : ℕ) (x y : ℤ) where
-    tile-of-square : Holds (squareRectangle d q) n x y → (t : ℕ) × InSquare d q t × Holds (rectangle d t) n x y
+    tile-of-square : PointIn (squareRectangle d q) n x y → (t : ℕ) × InSquare d q t × PointIn (rectangle d t) n x y
     tile-of-square h =
         let u : LiesIn (d .width) (d .s) n x (q .column) (pastOf (columns d) (q .column) (q .exponent) - 1)
         = between-tiles (d .width) (d .s) n x (last≥ (q .exponent) (g .column)) (last< (q .exponent) (g .column)) (h .left) (h .right) in
@@ -81,11 +81,11 @@ module _ (d : Screen) (a : Allowed d) (q : Square) (g : StartsOnGrid d q) where
             row≥ = rw er (v .first≤);
             row< = rw er (r .1);
           },
-          subst (λ (p : Type 0). p) (λ i. Holds (rectangleAt d (sym ec i) (sym er i)) n x y)
+          subst (λ (p : Type 0). p) (λ i. PointIn (rectangleAt d (sym ec i) (sym er i)) n x y)
               (record { left = u .from; right = u .to; top = v .from; bottom = v .to }),
         )
 
-    square-of-tile : {t : ℕ} → InSquare d q t → Holds (rectangle d t) n x y → Holds (squareRectangle d q) n x y
+    square-of-tile : {t : ℕ} → InSquare d q t → PointIn (rectangle d t) n x y → PointIn (squareRectangle d q) n x y
     square-of-tile {t} w h =
         record {
           left = ≤ℤ-trans (times-rises n (near-rises (d .width) (d .s) (w .column≥))) (h .left);
@@ -95,7 +95,7 @@ module _ (d : Screen) (a : Allowed d) (q : Square) (g : StartsOnGrid d q) where
         }
 
     -- a point lies in the square's rectangle exactly if it lies in one of the square's tiles
-    pub square-is-its-tiles : Holds (squareRectangle d q) n x y ↔ ((t : ℕ) × InSquare d q t × Holds (rectangle d t) n x y)
+    pub square-is-its-tiles : PointIn (squareRectangle d q) n x y ↔ ((t : ℕ) × InSquare d q t × PointIn (rectangle d t) n x y)
     square-is-its-tiles = (tile-of-square, λ h. square-of-tile (h .1) (h .2))
 
   -- ---- and is touched as they are
@@ -103,7 +103,7 @@ module _ (d : Screen) (a : Allowed d) (q : Square) (g : StartsOnGrid d q) where
   module _ (shape : Shape) where
     -- the mean of the vertices with these weights, in a rectangle
     abbrev Mean : List ℕ → Rectangle → Type 0
-    Mean ws p = Holds p (total ws) (weighted (λ v. v .x) ws (vertices shape)) (weighted (λ v. v .y) ws (vertices shape))
+    Mean ws p = PointIn p (total ws) (weighted (λ v. v .x) ws (vertices shape)) (weighted (λ v. v .y) ws (vertices shape))
 
     held : {p : Rectangle} (h : Touches shape p) → Mean (h .weights) p
     held h = record { left = h .mean .left; right = h .mean .right; top = h .mean .top; bottom = h .mean .bottom }

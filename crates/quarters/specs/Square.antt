@@ -52,7 +52,7 @@ squareRectangle d q =
     }
 
 -- the point (x, y), at a scale of n, lies in the rectangle
-pub record Holds (q : Rectangle) (n : ℕ) (x y : ℤ) : Type 0 where
+pub record PointIn (q : Rectangle) (n : ℕ) (x y : ℤ) : Type 0 where
   pub left : (pos n *ℤ q .left) ≤ℤ x
   pub right : x ≤ℤ (pos n *ℤ q .right)
   pub top : (pos n *ℤ q .top) ≤ℤ y

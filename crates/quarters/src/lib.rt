@@ -22,7 +22,7 @@ use touch::Inward;
 use touch::Looked;
 
 // A square of 2^exponent by 2^exponent tiles, by the column and the row of its first.
-pub struct Square {
+struct Square {
     pub column: u32,
     pub row: u32,
     pub exponent: u32,

@@ -6,7 +6,7 @@ use Rattle.screen.specs.Screen.{tiles}
 use Rattle.quarters.specs.declared.Square.{Square}
 use Rattle.quarters.specs.Square.{pastOf}
 use Rattle.quarters.specs.Map.{BytesSet}
-use Rattle.quarters.proofs.Ones.{row-room}
+use Rattle.quarters.proofs.Ones.{row-among-tiles}
 use borrow.Author.Needs.{needs}
 use Rattle.quarters.proofs.set_row.Statement.{statement}
 use Rattle.quarters.proofs.set_row.Tie as tie
@@ -21,7 +21,7 @@ past-of-requires c κs = search needs
 room : (c : tie.After-past-of) → let s = c .before .before .before in let n = c .before .columns-of .result in s .args .row * n + n ≤ tiles (s .args .screen)
 room c =
     let s = c .before .before .before in
-    rw (c .before .columns-of .ensures) (row-room (s .args .screen) (s .pre .0) (s .args .square) (s .pre .2))
+    rw (c .before .columns-of .ensures) (row-among-tiles (s .args .screen) (s .pre .0) (s .args .square) (s .pre .2))
 
 mul-base : tie.Need-mul-base
 mul-base c = let t = c .before .before .before .pre .0 .tiles≤ in omega (arith, room c)

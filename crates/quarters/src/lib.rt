@@ -29,7 +29,7 @@ struct Square {
 }
 
 // The side of a square, in tiles.
-fn side_of(exponent: u32) -> u32
+fn side_in_tiles(exponent: u32) -> u32
     requires { ⌜ exponent ≤ 9 ⌝ }
     ensures { λ r. ⌜ (r ≡ 2 ^ exponent) × (r ≤ 512) ⌝ }
 {
@@ -41,7 +41,7 @@ fn past_of(n: u32, k: u32, exponent: u32) -> u32
     requires { ⌜ (k ≤ 512) × (exponent ≤ 9) ⌝ }
     ensures { λ r. ⌜ r ≡ pastOf n k exponent ⌝ }
 {
-    let past = k + side_of(exponent);
+    let past = k + side_in_tiles(exponent);
     if past < n { past } else { n }
 }
 
@@ -136,7 +136,7 @@ fn beside(first: Square, k: u32) -> Square
     requires { ⌜ (Small (besideOf first k)) × (k < 4) ⌝ }
     ensures { λ r. ⌜ r ≡ besideOf first k ⌝ }
 {
-    let side = side_of(first.exponent);
+    let side = side_in_tiles(first.exponent);
     let column = first.column + k % 2 * side;
     let row = first.row + k / 2 * side;
     Square {
@@ -197,7 +197,7 @@ fn exponent_of(m: u32, n: u32) -> u32
 {
     let most = if m < n { n } else { m };
     let mut exponent = 0;
-    while side_of(exponent) < most {
+    while side_in_tiles(exponent) < most {
         exponent += 1;
     }
     exponent

@@ -5,7 +5,7 @@ use Rattle.numbers.specs.Says.{Says}
 use Rattle.screen.specs.declared.Rectangle.{Rectangle}
 use Rattle.touch.specs.declared.Edge.{Edge}
 use Rattle.touch.specs.declared.Edges.{Edges}
-use Rattle.touch.specs.declared.Side.{Side}
+use Rattle.touch.specs.declared.EdgeSide.{EdgeSide}
 use Rattle.touch.specs.declared.Inward.{Inward}
 use Rattle.touch.specs.declared.Cover as answer
 use Rattle.touch.specs.Edges.{rowEdge, ApartAt}
@@ -19,7 +19,7 @@ OnSideOf e q = AllOnSide (e .third) (cornersAt (rowEdge e (q .top) (q .bottom)) 
 abbrev pub ApartOf : Edge → Rectangle → Type 0
 ApartOf e q = ApartAt (rowEdge e (q .top) (q .bottom)) (q .left) (q .right)
 
-pub record SideSays (r : Side) (e : Edge) (q : Rectangle) : Type 0 where
+pub record SideSays (r : EdgeSide) (e : Edge) (q : Rectangle) : Type 0 where
   pub outer : Says (r .outer) (ApartOf e q)
   pub inner : Says (r .inner) (OnSideOf e q)
 

@@ -76,9 +76,9 @@ struct Corners {
 }
 
 // On which side of an edge a rectangle lies: outer where the edge separates it from the shape, inner where it lies on the side of the third vertex.
-pub struct Side {
-    pub outer: bool,
-    pub inner: bool,
+struct EdgeSide {
+    outer: bool,
+    inner: bool,
 }
 
 // Which edges of a shape have a rectangle on their inner side.
@@ -381,19 +381,19 @@ fn whole_or_part(whole: bool) -> Cover
 }
 
 // On which side of the edge the rectangle lies; where that is known to be the inner one, nothing is computed.
-fn side_at(edge: Edge, rectangle: Rectangle, known: bool) -> Side
+fn side_at(edge: Edge, rectangle: Rectangle, known: bool) -> EdgeSide
     requires { ⌜ (EdgeRange edge) × (Proper rectangle) × (known ≡ true → OnSideOf edge rectangle) ⌝ }
     ensures { λ r. ⌜ SideSays r edge rectangle ⌝ }
 {
     if known {
-        return Side {
+        return EdgeSide {
             outer: false,
             inner: true,
         };
     }
     let row = row_edge(edge, rectangle.top, rectangle.bottom);
     let ends = ends_at(row, rectangle.left, rectangle.right);
-    Side {
+    EdgeSide {
         outer: outer(row, ends),
         inner: inner(row, ends),
     }

@@ -25,8 +25,8 @@ abbrev μ-loop : tie.MeasureT-loop
 loop-holds : tie.Need-loop-holds Inv-loop μ-loop
 loop-holds c = (⊎-elim (λ w. omega arith) (λ w. omega arith) (c .if1 .came), omega arith, λ k h. omega arith)
 
-side-of-requires : tie.Need-side-of-requires Inv-loop μ-loop
-side-of-requires c κs = c .loop .inv .1
+side-in-tiles-requires : tie.Need-side-in-tiles-requires Inv-loop μ-loop
+side-in-tiles-requires c κs = c .loop .inv .1
 
 add-exponent : tie.Need-add-exponent Inv-loop μ-loop
 add-exponent c = search needs
@@ -35,13 +35,13 @@ loop-less : tie.Need-loop-less Inv-loop μ-loop
 loop-less c =
     let s = c .before .before .before .before in
     let i = c .before .before .loop .inv in
-    omega (arith, below-nine (s .pre) (i .0) (c .before .side-of .ensures .0) (c .if2 .taken))
+    omega (arith, below-nine (s .pre) (i .0) (c .before .side-in-tiles .ensures .0) (c .if2 .taken))
 
 loop-again : tie.Need-loop-again Inv-loop μ-loop
 loop-again c =
     let s = c .before .before .before .before in
     let i = c .before .before .loop .inv in
-    let e = c .before .side-of .ensures .0 in (
+    let e = c .before .side-in-tiles .ensures .0 in (
       i .0,
       omega (arith, below-nine (s .pre) (i .0) e (c .if2 .taken)),
       λ k h. omega (arith, less {a = c .before .before .loop .exponent} {b = k} (omega arith)),
@@ -50,10 +50,10 @@ loop-again c =
 returns : tie.Need-returns Inv-loop μ-loop
 returns c =
     let i = c .before .before .loop .inv in
-    let e = c .before .side-of .ensures .0 in
+    let e = c .before .side-in-tiles .ensures .0 in
     let m = i .0 in
     (record { first = omega arith; second = omega arith; least = λ k x y. i .2 k (omega arith) }, i .1)
 
 pub exponent-of-spec : {M : Type 1} → statement M
 exponent-of-spec =
-    tie.close (tie.spec Inv-loop μ-loop loop-holds side-of-requires add-exponent loop-less loop-again returns)
+    tie.close (tie.spec Inv-loop μ-loop loop-holds side-in-tiles-requires add-exponent loop-less loop-again returns)

@@ -3,7 +3,6 @@
 use mathlib.Core.Path.{_≡_, sym, ap, subst, _∙_}
 use mathlib.Core.Bool.{true, false, _||_}
 use mathlib.Core.Logic.{_↔_}
-use mathlib.Core.List.{List}
 use Prim.Native.Nat.{ℕ, _+_, _-_, _^_, _≤_, _<_}
 use native.Mathlib.Omega.{arith}
 use lib.IntN.{ℤ}
@@ -12,23 +11,22 @@ use lib.Dec.{eqb}
 use lib.Pow.{pow-pos}
 use borrow.Author.Tests.{eqb-true, eqb-false}
 use Rattle.numbers.proofs.Says.{true≢false}
-use Rattle.numbers.proofs.Diff.{≤ℤ-trans, times-rises}
+use Rattle.numbers.proofs.Diff.{≤ℤ-trans}
 use Rattle.screen.specs.declared.Screen.{Screen}
 use Rattle.screen.specs.declared.Rectangle.{Rectangle}
 use Rattle.screen.specs.Screen.{Allowed, columns, rows, columnOf, rowOf, tileAt}
 use Rattle.screen.specs.Rectangle.{near, far, rectangleAt, rectangle, Proper, HasArea}
 use Rattle.screen.proofs.Laws.{near-rises, far-rises, near≥, near-far, near<far, far≤, column-row, column<, row<, column-is, row-is, tile<}
-use Rattle.screen.proofs.Axis.{LiesIn, between-tiles}
 use Rattle.shape.specs.declared.Shape.{Shape}
-use Rattle.shape.specs.Shape.{vertices}
 use Rattle.touch.specs.declared.Cover as answer
-use Rattle.touch.specs.Touches.{total, weighted, Touches}
+use Rattle.touch.specs.Touches.{Touches, PointIn}
 use Rattle.touch.specs.Cover.{Wholly, CoverSays, isTouched, isWhole}
 use Rattle.touch.proofs.Extremes.{≤ℤ-<ℤ-trans}
+use Rattle.touch.proofs.Glass.{SomeTile, together-is-its-tiles, together-touched}
 use Rattle.touch.proofs.Gaps.{row-has-no-gap, column-has-no-gap}
 use Rattle.touch.proofs.Points.{point-is-touched}
 use Rattle.quarters.specs.declared.Square.{Square}
-use Rattle.quarters.specs.Square.{InSquare, TouchedIn, SomeTouchedIn, StartsOnGrid, pastOf, squareRectangle, PointIn, SquareSays}
+use Rattle.quarters.specs.Square.{InSquare, TouchedIn, SomeTouchedIn, StartsOnGrid, pastOf, squareRectangle, SquareSays}
 
 -- ---- the tiles of a square along an axis, from the first to the last on the grid
 
@@ -62,64 +60,59 @@ module _ (d : Screen) (a : Allowed d) (q : Square) (g : StartsOnGrid d q) where
 
   -- ---- a square is its tiles
 
-  module _ (n : ℕ) (x y : ℤ) where
-    tile-of-square : PointIn (squareRectangle d q) n x y → (t : ℕ) × InSquare d q t × PointIn (rectangle d t) n x y
-    tile-of-square h =
-        let u : LiesIn (d .width) (d .s) n x (q .column) (pastOf (columns d) (q .column) (q .exponent) - 1)
-        = between-tiles (d .width) (d .s) n x (last≥ (q .exponent) (g .column)) (last< (q .exponent) (g .column)) (h .left) (h .right) in
-        let v : LiesIn (d .height) (d .s) n y (q .row) (pastOf (rows d) (q .row) (q .exponent) - 1)
-        = between-tiles (d .height) (d .s) n y (last≥ (q .exponent) (g .row)) (last< (q .exponent) (g .row)) (h .top) (h .bottom) in
-        let c = last-before (q .exponent) (g .column) (u .≤last) in
-        let r = last-before (q .exponent) (g .row) (v .≤last) in
-        let ec = column-is d a (u .tile) (v .tile) (c .0) in
-        let er = row-is d a (u .tile) (v .tile) (c .0) in (
-          tileAt d (u .tile) (v .tile),
+  -- its tiles on the grid, by column and row and by number
+  module _ (P : Rectangle → Type 0) where
+    abbrev Some : Type 0
+    Some = SomeTile d P (q .column) (pastOf (columns d) (q .column) (q .exponent) - 1) (q .row) (pastOf (rows d) (q .row) (q .exponent) - 1)
+
+    numbered : Some → (t : ℕ) × InSquare d q t × P (rectangle d t)
+    numbered s =
+        let c = last-before (q .exponent) (g .column) (s .column≤) in
+        let r = last-before (q .exponent) (g .row) (s .row≤) in
+        let ec = column-is d a (s .column) (s .row) (c .0) in
+        let er = row-is d a (s .column) (s .row) (c .0) in (
+          tileAt d (s .column) (s .row),
           record {
             on-grid = tile< d a (c .0) (r .0);
-            column≥ = rw ec (u .first≤);
+            column≥ = rw ec (s .column≥);
             column< = rw ec (c .1);
-            row≥ = rw er (v .first≤);
+            row≥ = rw er (s .row≥);
             row< = rw er (r .1);
           },
-          subst (λ (p : Type 0). p) (λ i. PointIn (rectangleAt d (sym ec i) (sym er i)) n x y)
-              (record { left = u .from; right = u .to; top = v .from; bottom = v .to }),
+          subst P (λ i. rectangleAt d (sym ec i) (sym er i)) (s .has),
         )
 
-    square-of-tile : {t : ℕ} → InSquare d q t → PointIn (rectangle d t) n x y → PointIn (squareRectangle d q) n x y
-    square-of-tile {t} w h =
+    placed : (t : ℕ) → InSquare d q t → P (rectangle d t) → Some
+    placed t w h =
         record {
-          left = ≤ℤ-trans (times-rises n (near-rises (d .width) (d .s) (w .column≥))) (h .left);
-          right = ≤ℤ-trans (h .right) (times-rises n (far-rises (d .width) (d .s) (before-last (q .exponent) (g .column) (column< d a t) (w .column<))));
-          top = ≤ℤ-trans (times-rises n (near-rises (d .height) (d .s) (w .row≥))) (h .top);
-          bottom = ≤ℤ-trans (h .bottom) (times-rises n (far-rises (d .height) (d .s) (before-last (q .exponent) (g .row) (row< d a t (w .on-grid)) (w .row<))));
+          column = columnOf d t;
+          row = rowOf d t;
+          column≥ = w .column≥;
+          column≤ = before-last (q .exponent) (g .column) (column< d a t) (w .column<);
+          row≥ = w .row≥;
+          row≤ = before-last (q .exponent) (g .row) (row< d a t (w .on-grid)) (w .row<);
+          has = h;
         }
 
-    -- a point lies in the square's rectangle exactly if it lies in one of the square's tiles
-    pub square-is-its-tiles : PointIn (squareRectangle d q) n x y ↔ ((t : ℕ) × InSquare d q t × PointIn (rectangle d t) n x y)
-    square-is-its-tiles = (tile-of-square, λ h. square-of-tile (h .1) (h .2))
+  -- a point lies in the square's rectangle exactly if it lies in one of the square's tiles
+  pub square-is-its-tiles : (n : ℕ) (x y : ℤ) → PointIn (squareRectangle d q) n x y ↔ ((t : ℕ) × InSquare d q t × PointIn (rectangle d t) n x y)
+  square-is-its-tiles n x y =
+      let k =
+      together-is-its-tiles d (last≥ (q .exponent) (g .column)) (last< (q .exponent) (g .column)) (last≥ (q .exponent) (g .row))
+      (last< (q .exponent) (g .row)) n x y in
+      (λ h. numbered (λ p. PointIn p n x y) (k .0 h), λ h. k .1 (placed (λ p. PointIn p n x y) (h .0) (h .1) (h .2)))
 
   -- ---- and is touched as they are
 
   module _ (shape : Shape) where
-    -- the mean of the vertices with these weights, in a rectangle
-    abbrev Mean : List ℕ → Rectangle → Type 0
-    Mean ws p = PointIn p (total ws) (weighted (λ v. v .x) ws (vertices shape)) (weighted (λ v. v .y) ws (vertices shape))
-
-    held : {p : Rectangle} (h : Touches shape p) → Mean (h .weights) p
-    held h = record { left = h .mean .left; right = h .mean .right; top = h .mean .top; bottom = h .mean .bottom }
-
-    holding : {p r : Rectangle} (h : Touches shape p) → Mean (h .weights) r → Touches shape r
-    holding h k =
-        record {
-          weights = h .weights;
-          mean = record { one-each = h .mean .one-each; some = h .mean .some; left = k .left; right = k .right; top = k .top; bottom = k .bottom };
-        }
-
     pub square-touched : Touches shape (squareRectangle d q) ↔ SomeTouchedIn d shape q
-    square-touched = (
-      λ h. let w = tile-of-square _ _ _ (held h) in record { tile = w .0; touched = (w .1, holding h (w .2)) },
-      λ s. let h = s .touched .1 in holding h (square-of-tile _ _ _ (s .touched .0) (held h)),
-    )
+    square-touched =
+        let k =
+        together-touched d (last≥ (q .exponent) (g .column)) (last< (q .exponent) (g .column)) (last≥ (q .exponent) (g .row))
+        (last< (q .exponent) (g .row)) shape in (
+          λ h. let s = numbered (Touches shape) (k .0 h) in record { tile = s .0; touched = (s .1, s .2) },
+          λ s. k .1 (placed (Touches shape) (s .tile) (s .touched .0) (s .touched .1)),
+        )
 
     -- the shape reaches a tile's columns along the top of the square and along the bottom, and so the tile between
     pub covered-touched : Wholly shape (squareRectangle d q) → (t : ℕ) → InSquare d q t → Touches shape (rectangle d t)

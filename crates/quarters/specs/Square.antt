@@ -1,8 +1,6 @@
 -- A square of tiles: which tiles of a screen are its, the rectangle that they make, and what is meant by its being touched.
 use Prim.Native.Nat.{ℕ, _+_, _*_, _-_, _/_, _%_, _^_, _≤_, _<_, min}
 use mathlib.Core.Path.{_≡_}
-use lib.IntN.{ℤ, pos, _*ℤ_}
-use lib.Signed.{_≤ℤ_}
 use Rattle.screen.specs.declared.Screen.{Screen}
 use Rattle.screen.specs.declared.Rectangle.{Rectangle}
 use Rattle.screen.specs.Screen.{columns, rows, tiles, columnOf, rowOf}
@@ -50,13 +48,6 @@ squareRectangle d q =
       top = near (d .height) (d .s) (q .row);
       bottom = far (d .height) (d .s) (pastOf (rows d) (q .row) (q .exponent) - 1);
     }
-
--- the point (x, y), at a scale of n, lies in the rectangle
-pub record PointIn (q : Rectangle) (n : ℕ) (x y : ℤ) : Type 0 where
-  pub left : (pos n *ℤ q .left) ≤ℤ x
-  pub right : x ≤ℤ (pos n *ℤ q .right)
-  pub top : (pos n *ℤ q .top) ≤ℤ y
-  pub bottom : y ≤ℤ (pos n *ℤ q .bottom)
 
 -- what each answer says of a square: that none of its tiles is touched, that one is, that all are
 abbrev pub SquareSays : answer.Cover → Screen → Shape → Square → Type 0

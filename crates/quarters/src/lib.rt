@@ -23,9 +23,9 @@ use touch::Looked;
 
 // A square of 2^exponent by 2^exponent tiles, by the column and the row of its first.
 struct Square {
-    pub column: u32,
-    pub row: u32,
-    pub exponent: u32,
+    column: u32,
+    row: u32,
+    exponent: u32,
 }
 
 // The side of a square, in tiles.

@@ -33,3 +33,10 @@ pub record MeanIn (ws : List ℕ) (vs : List Vertex) (q : Rectangle) : Type 0 wh
 pub record Touches (shape : Shape) (q : Rectangle) : Type 0 where
   pub weights : List ℕ
   pub mean : MeanIn weights (vertices shape) q
+
+-- the point (x, y), at a scale of n, lies in the rectangle; of touching it is the mean, at the sum of the weights
+pub record PointIn (q : Rectangle) (n : ℕ) (x y : ℤ) : Type 0 where
+  pub left : (pos n *ℤ q .left) ≤ℤ x
+  pub right : x ≤ℤ (pos n *ℤ q .right)
+  pub top : (pos n *ℤ q .top) ≤ℤ y
+  pub bottom : y ≤ℤ (pos n *ℤ q .bottom)

@@ -14,7 +14,9 @@ use Rattle.audit.specs.declared.Audited.the-variants.{Sound, Damaged}
 use Rattle.audit.specs.Answer.{HeaderOf, AuditFinds}
 use Rattle.lists.specs.Reach.{Among}
 use Rattle.lists.proofs.Named.{list-length}
+use Rattle.frame.specs.Frame.{listsOf, startsOf}
 use Rattle.calls.specs.Tables.{listIn}
+use Rattle.calls.specs.Frame.{listsIn, startsIn}
 
 pub told-damaged : {p : List ℕ} {x : Audited} → x ≡ Damaged → AuditFinds p x → SoundPool (layoutOf p) p → ⊥
 told-damaged {p} e h = subst (AuditFinds p) e h
@@ -42,6 +44,13 @@ module _ {p : List ℕ} {h : Header} (k : SoundPool (layoutOf p) p × HeaderOf (
   -- the list of a tile, by as many tiles as the header says
   pub same-list : {T : ℕ} (t : ℕ) → T ≡ h .tiles → listOf (layoutFor (h .layout)) T p t ≡ listIn p t
   same-list t e = ap₂ (λ (L : Layout) (n : ℕ). listOf L n p t) (k .1 .layout) (e ∙ k .1 .tiles)
+
+  -- all lists, and where they start, likewise
+  pub same-lists : listsOf (layoutFor (h .layout)) (h .tiles) p (h .tiles) ≡ listsIn p
+  same-lists = ap₂ (λ (L : Layout) (n : ℕ). listsOf L n p n) (k .1 .layout) (k .1 .tiles)
+
+  pub same-starts : startsOf (layoutFor (h .layout)) (h .tiles) p ≡ startsIn p
+  same-starts = ap₂ (λ (L : Layout) (n : ℕ). startsOf L n p) (k .1 .layout) (k .1 .tiles)
 
   -- a tile's first word is the length of its list
   pub entries-are : {t : ℕ} → t < h .tiles → tileWord (layoutOf p) p t 0 ≡ length (listIn p t)

@@ -3,3 +3,4 @@ pub mod BinList
 pub mod Questions
 pub mod Units
 pub mod Overlaps
+pub mod Frame

@@ -25,6 +25,7 @@ ghost use Prim.Native.Nat.{_≤_, _<_};
 ghost use lib.ListN.{length};
 ghost use Rattle.quarters.specs.Map.{MapSays};
 ghost use Rattle.shapes.specs.Shapes.{RightList, countOf};
+ghost use Rattle.calls.specs.Frame.{notCopied, ReadListSays, ReadAllSays, CountsSays};
 ghost use Rattle.calls.specs.BinList.{idFrom, BinNumber, AllBinned, BinListSays};
 ghost use Rattle.calls.specs.Questions.{QuestionSays, notAsked, BoxSays, CornerSays};
 ghost use Rattle.calls.specs.Units.{UnitSays};
@@ -57,6 +58,21 @@ pub struct Found {
 // What a question about a tile's mark answers: its number, and the most entries that the tile had since the opening.
 pub struct HighWater {
     pub number: u32,
+    pub entries: u32,
+}
+
+// What a read of lists answers: its number, and how many entries were written.
+pub struct Copied {
+    pub number: u32,
+    pub count: u32,
+}
+
+// What a pool holds in sum: the answer's number, tiles, blocks, free blocks, and the entries of all lists.
+pub struct PoolCounts {
+    pub number: u32,
+    pub tiles: u32,
+    pub blocks: u32,
+    pub free: u32,
     pub entries: u32,
 }
 
@@ -279,6 +295,77 @@ pub fn read(pool: &[u32], tile: Tile, place: u32) -> Found
         number: 0,
         id: numbers::plain(entry),
         whole: numbers::is_flagged(entry),
+    }
+}
+
+// A refused read of lists.
+fn not_copied(number: u32) -> Copied
+    ensures { λ r. ⌜ r ≡ notCopied number ⌝ }
+{
+    Copied { number, count: 0 }
+}
+
+// Writes a tile's list to the start of `entries`, each entry an id with its flag: 0 and how many there are, or 4, 9, 11 in that order, with nothing written.
+// Words past the list stay.
+pub fn read_list(pool: &[u32], tile: Tile, entries: &mut [u32]) -> Copied
+    ensures { λ r. ⌜ ReadListSays (now (pool .entry)) (tile .0) (now (entries .entry)) r (now (entries .exit)) ⌝ }
+{
+    let audited = audit::audit(pool);
+    let Audited::Sound(header) = audited else {
+        return not_copied(4);
+    };
+    if header.tiles <= tile.0 {
+        return not_copied(9);
+    }
+    let tiles = wide(header.tiles);
+    let count = lists::entries(pool, header.layout, tiles, tile);
+    if entries.len() < wide(count) {
+        return not_copied(11);
+    }
+    frame::put_list(pool, header.layout, tiles, tile, entries, 0);
+    Copied { number: 0, count }
+}
+
+// Writes the lists of all tiles to the start of `entries`, one after the other, and where each of them starts, and where the last one ends, to that of
+// `starts`: 0 and how many entries there are, or 4, 11 in that order, with nothing written. Words past these stay.
+pub fn read_all(pool: &[u32], starts: &mut [u32], entries: &mut [u32]) -> Copied
+    ensures { λ r. ⌜ ReadAllSays (now (pool .entry)) (now (starts .entry)) (now (entries .entry)) r (now (starts .exit)) (now (entries .exit)) ⌝ }
+{
+    let audited = audit::audit(pool);
+    let Audited::Sound(header) = audited else {
+        return not_copied(4);
+    };
+    if starts.len() <= wide(header.tiles) {
+        return not_copied(11);
+    }
+    let count = frame::total_entries(pool, header.layout, header.tiles);
+    if entries.len() < wide(count) {
+        return not_copied(11);
+    }
+    frame::put_lists(pool, header.layout, header.tiles, starts, entries);
+    Copied { number: 0, count }
+}
+
+// How many tiles, blocks, free blocks and entries a pool has: 0 and these, or 4.
+pub fn counts(pool: &[u32]) -> PoolCounts
+    ensures { λ r. ⌜ CountsSays (now (pool .entry)) r ⌝ }
+{
+    let audited = audit::audit(pool);
+    let Audited::Sound(header) = audited else {
+        return PoolCounts {
+            number: 4,
+            tiles: 0,
+            blocks: 0,
+            free: 0,
+            entries: 0,
+        };
+    };
+    PoolCounts {
+        number: 0,
+        tiles: header.tiles,
+        blocks: header.blocks,
+        free: lists::free(pool, header.layout),
+        entries: frame::total_entries(pool, header.layout, header.tiles),
     }
 }
 

@@ -1,6 +1,5 @@
 pub mod Writing
 pub mod Little
 pub mod Numerals
-pub mod Following
 pub mod Lines
 pub mod OneText

@@ -1,11 +1,8 @@
--- Numbers as text, and what it is to put text into a buffer.
-use mathlib.Core.Path.{_≡_}
+-- Numbers as text.
 use mathlib.Core.Bool.{cond}
 use mathlib.Core.List.{List, [], _∷_, _++_}
 use Prim.Native.Nat.{ℕ, zero, suc, _+_, _/_, _%_}
-use lib.ListN.{length}
 use lib.Dec.{ltb}
-use Rattle.pool.specs.Written.{written}
 
 -- the decimal digits of n, of which there are at most `most` + 1: those of n / 10, and the last
 abbrev pub numeralTo : (most n : ℕ) → List ℕ
@@ -19,8 +16,3 @@ numeral n = numeralTo n n
 -- text, and the number behind it
 unfoldable pub field : List ℕ → (n : ℕ) → List ℕ
 field name n = name ++ numeral n
-
--- the buffer with text from `at` on, and the place after it
-pub record Puts (before : List ℕ) (at : ℕ) (text : List ℕ) (after : List ℕ) (next : ℕ) : Type 0 where
-  pub next-is : next ≡ at + length text
-  pub after-is : after ≡ written before at text

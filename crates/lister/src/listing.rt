@@ -4,19 +4,20 @@ ghost use mathlib.Core.Path.{_≡_};
 ghost use Prim.Native.Nat.{_+_, _^_, _<_, _≤_};
 ghost use lib.ListN.{length};
 ghost use Rattle.screen.specs.Screen.{Allowed};
-ghost use Rattle.pool.specs.Words.{layoutOf, start};
-ghost use Rattle.pool.specs.Editions.{layoutFor, Sized};
+ghost use Rattle.pool.specs.Words.{layoutOf};
+ghost use Rattle.pool.specs.Editions.{layoutFor};
 ghost use Rattle.pool.specs.Sound.{Sound, tilesOf};
 ghost use Rattle.pool.specs.Lists.{listOf};
+ghost use Rattle.pool.specs.Written.{Puts};
 ghost use Rattle.audit.specs.Answer.{HeaderOf};
-ghost use Rattle.lister.specs.Text.{Puts};
+ghost use Rattle.lists.specs.Reach.{Among};
 ghost use Rattle.lister.specs.Listing.{screenLine, entryText, entriesText, lineOf, tileLine, tileLines, listing};
-use crate::entries::tile_entries;
 use crate::text::put_field;
 use crate::text::put_text;
 use audit::Header;
 use numbers::is_flagged;
 use numbers::plain;
+use numbers::wide;
 use pool::Edition;
 use screen::Screen;
 use screen::Tile;
@@ -84,19 +85,18 @@ fn put_line(tile: Tile, entries: &[u32], out: &mut [u8], at: usize) -> usize
 fn put_tile(
     pool: &[u32],
     layout: Edition,
-    from: usize,
+    tiles: usize,
     tile: Tile,
     list: &mut [u32],
     out: &mut [u8],
     at: usize,
 ) -> usize
-    requires { ⌜ (Sound (layoutFor layout) (now pool)) × Sized (layoutFor layout) ⌝ }
-    requires { ⌜ (from ≡ start (layoutFor layout) (tilesOf (now pool))) × (tile .0 < tilesOf (now pool)) ⌝ }
-    requires { ⌜ length (listOf (layoutFor layout) (tilesOf (now pool)) (now pool) (tile .0)) ≤ length (now list) ⌝ }
-    requires { ⌜ at + length (tileLine (tile .0) (listOf (layoutFor layout) (tilesOf (now pool)) (now pool) (tile .0))) ≤ length (now out) ⌝ }
-    ensures { λ r. ⌜ Puts (now (out .entry)) at (tileLine (tile .0) (listOf (layoutFor layout) (tilesOf (now (pool .entry))) (now (pool .entry)) (tile .0))) (now (out .exit)) r ⌝ }
+    requires { ⌜ Among (layoutFor layout) (now pool) tiles (tile .0) ⌝ }
+    requires { ⌜ length (listOf (layoutFor layout) tiles (now pool) (tile .0)) ≤ length (now list) ⌝ }
+    requires { ⌜ at + length (tileLine (tile .0) (listOf (layoutFor layout) tiles (now pool) (tile .0))) ≤ length (now out) ⌝ }
+    ensures { λ r. ⌜ Puts (now (out .entry)) at (tileLine (tile .0) (listOf (layoutFor layout) tiles (now (pool .entry)) (tile .0))) (now (out .exit)) r ⌝ }
 {
-    let count = tile_entries(pool, layout, from, tile, list);
+    let count = frame::put_list(pool, layout, tiles, tile, list, 0);
     if count == 0 {
         return at;
     }
@@ -112,10 +112,11 @@ fn put_tiles(pool: &[u32], header: Header, list: &mut [u32], out: &mut [u8], at:
     ensures { λ r. ⌜ Puts (now (out .entry)) at (tileLines (now (pool .entry)) (tilesOf (now (pool .entry)))) (now (out .exit)) r ⌝ }
 {
     let tiles = header.tiles;
+    let all = wide(tiles);
     let mut next = at;
     let mut t = 0;
     while t < tiles {
-        next = put_tile(pool, header.layout, header.start, Tile(t), list, out, next);
+        next = put_tile(pool, header.layout, all, Tile(t), list, out, next);
         t += 1;
     }
     next

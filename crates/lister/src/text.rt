@@ -1,7 +1,8 @@
 // Text in a buffer. Each function puts its text at a place of the buffer, where there is room for it, and answers the place after it.
 ghost use Prim.Native.Nat.{_+_, _≤_};
 ghost use lib.ListN.{length};
-ghost use Rattle.lister.specs.Text.{numeral, field, Puts};
+ghost use Rattle.pool.specs.Written.{Puts};
+ghost use Rattle.lister.specs.Text.{numeral, field};
 
 // The text itself.
 pub fn put_text(text: &[u8], out: &mut [u8], at: usize) -> usize

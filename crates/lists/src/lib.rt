@@ -47,7 +47,7 @@ fn tile_index(layout: Edition, tile: Tile, i: usize) -> usize
 }
 
 // Where word k of a block stands, in a pool of that many tiles.
-fn block_index(layout: Edition, tiles: usize, block: Block, k: usize) -> usize
+pub fn block_index(layout: Edition, tiles: usize, block: Block, k: usize) -> usize
     requires { ⌜ start (layoutFor layout) tiles + suc (layoutFor layout .ids) * block .0 + k < 2 ^ 64 ⌝ }
     ensures { λ r. ⌜ r ≡ start (layoutFor layout) tiles + suc (layoutFor layout .ids) * block .0 + k ⌝ }
 {
@@ -64,7 +64,7 @@ fn tile_word(pool: &[u32], layout: Edition, tile: Tile, i: usize) -> u32
 }
 
 // Word k of a block.
-fn block_word(pool: &[u32], layout: Edition, tiles: usize, block: Block, k: usize) -> u32
+pub fn block_word(pool: &[u32], layout: Edition, tiles: usize, block: Block, k: usize) -> u32
     requires { ⌜ BlockIn (layoutFor layout) tiles (now pool) (block .0) k ⌝ }
     ensures { λ r. ⌜ r ≡ blockWord (layoutFor layout) tiles (now (pool .entry)) (block .0) k ⌝ }
 {
@@ -86,6 +86,14 @@ pub fn entries(pool: &[u32], layout: Edition, tiles: usize, tile: Tile) -> u32
     ensures list { λ r. ⌜ r ≡ length (listOf (layoutFor layout) tiles (now (pool .entry)) (tile .0)) ⌝ }
 {
     tile_word(pool, layout, tile, ENTRIES)
+}
+
+// The link to the first block of a tile, 0 where its list is empty.
+pub fn first(pool: &[u32], layout: Edition, tiles: usize, tile: Tile) -> u32
+    requires { ⌜ Among (layoutFor layout) (now pool) tiles (tile .0) ⌝ }
+    ensures { λ r. ⌜ r ≡ tileWord (layoutFor layout) (now (pool .entry)) (tile .0) 1 ⌝ }
+{
+    tile_word(pool, layout, tile, FIRST)
 }
 
 // The most entries that a tile's list had since the opening.

@@ -9,6 +9,7 @@ pub mod Unique
 pub mod Header
 pub mod Rising
 pub mod Written
+pub mod Putting
 pub mod Editions
 pub mod Opening
 pub mod Room

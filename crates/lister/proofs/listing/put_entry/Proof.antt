@@ -6,7 +6,7 @@ use lib.ListN.{length, length-append}
 use Rattle.numbers.specs.Flag.{plain}
 use Rattle.lister.specs.Text.{field}
 use Rattle.lister.specs.Listing.{space, star, entryText}
-use Rattle.lister.proofs.Writing.{puts-then}
+use Rattle.pool.proofs.Putting.{puts-then}
 use Rattle.lister.proofs.Lines.{entryText-flagged, entryText-plain}
 use borrow.Author.Needs.{needs}
 use Rattle.lister.proofs.listing.put_entry.Statement.{statement}

@@ -2,7 +2,7 @@
 use Rattle.lister.specs.Listing.{lineOf}
 use native.Mathlib.Omega.{arith}
 use lib.ListN.{length-append}
-use Rattle.lister.proofs.Writing.{puts-then}
+use Rattle.pool.proofs.Putting.{puts-then}
 use borrow.Author.Needs.{needs}
 use Rattle.lister.proofs.listing.put_line.Statement.{statement}
 use Rattle.lister.proofs.listing.put_line.Tie as tie

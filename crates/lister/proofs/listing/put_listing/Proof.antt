@@ -8,7 +8,7 @@ use Rattle.screen.specs.Screen.{Allowed}
 use Rattle.pool.specs.Words.{start, room, headerWord}
 use Rattle.pool.specs.Sound.{blocksOf}
 use Rattle.lister.specs.Listing.{screenLine, listing}
-use Rattle.lister.proofs.Writing.{puts-then}
+use Rattle.pool.proofs.Putting.{puts-then}
 use borrow.Author.Needs.{needs}
 use Rattle.lister.proofs.listing.put_listing.Statement.{statement}
 use Rattle.lister.proofs.listing.put_listing.Tie as tie

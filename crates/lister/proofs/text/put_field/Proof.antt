@@ -2,7 +2,7 @@
 use denote.Ref.{now}
 use lib.ListN.{length-append}
 use Rattle.lister.specs.Text.{numeral, field}
-use Rattle.lister.proofs.Writing.{puts-then}
+use Rattle.pool.proofs.Putting.{puts-then}
 use native.Mathlib.Omega.{arith}
 use borrow.Author.Needs.{needs}
 use Rattle.lister.proofs.text.put_field.Statement.{statement}

@@ -2,7 +2,7 @@
 use Prim.Native.Nat.{_-_}
 use mathlib.Core.Path.{refl}
 use lib.ListN.{length}
-use Rattle.lister.proofs.Writing.{Writing, write-start, write-step, write-end}
+use Rattle.pool.proofs.Putting.{Writing, write-start, write-step, write-end}
 use borrow.Author.Needs.{needs}
 use native.Mathlib.Omega.{arith}
 use Rattle.lister.proofs.text.put_text.Statement.{statement}

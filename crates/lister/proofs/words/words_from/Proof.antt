@@ -7,7 +7,8 @@ use mathlib.Core.Path.{_≡_, sym, _∙_}
 use lib.ListN.{length}
 use Rattle.lister.specs.Bytes.{wordsOf}
 use Rattle.lister.proofs.Little.{length-wordsOf, getD-wordsOf}
-use Rattle.lister.proofs.Writing.{Writing, write-start, write-step, write-end, take-written, counts}
+use Rattle.pool.proofs.Putting.{Writing, write-start, write-step, write-end, take-written}
+use Rattle.lister.proofs.Writing.{counts}
 use Rattle.lister.proofs.words.words_from.Statement.{statement}
 use Rattle.lister.proofs.words.words_from.Tie as tie
 

@@ -1,14 +1,14 @@
 -- `copy`: after k words, writing the rest from there on gives what is promised; with none left, the words are that.
 use denote.Ref.{now}
-use Rattle.lister.proofs.Following.{length-part, getD-part}
+use Rattle.frame.proofs.Following.{length-part, getD-part}
 use Prim.Native.Nat.{_-_}
 use mathlib.Core.Path.{sym}
 use lib.ListN.{take, drop}
-use Rattle.lister.proofs.Writing.{Writing, write-start, write-step, write-end}
+use Rattle.pool.proofs.Putting.{Writing, write-start, write-step, write-end}
 use borrow.Author.Needs.{needs}
 use native.Mathlib.Omega.{arith}
-use Rattle.lister.proofs.entries.copy.Statement.{statement}
-use Rattle.lister.proofs.entries.copy.Tie as tie
+use Rattle.frame.proofs.copy.Statement.{statement}
+use Rattle.frame.proofs.copy.Tie as tie
 
 abbrev Inv-loop : tie.InvT-loop
 Inv-loop pool from count list₀ at k₀ list k = Writing list₀ at (take count (drop from pool)) list k

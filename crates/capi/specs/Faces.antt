@@ -14,6 +14,8 @@ use Rattle.calls.specs.declared.Rounded.{Rounded}
 use Rattle.calls.specs.declared.Binned.{Binned}
 use Rattle.calls.specs.declared.Released.{Released}
 use Rattle.calls.specs.declared.Found.{Found}
+use Rattle.calls.specs.declared.Copied.{Copied}
+use Rattle.calls.specs.declared.PoolCounts.{PoolCounts}
 use Rattle.calls.specs.declared.HighWater.{HighWater}
 use Rattle.calls.specs.declared.Answered.{Answered}
 use Rattle.calls.specs.declared.Counted.{Counted}
@@ -44,6 +46,12 @@ pub record ToldFound (Says : Found → Type 0) (number id whole : ℕ) : Type 0 
   pub number-is : number ≡ answer .number
   pub id-is : id ≡ answer .id
   pub whole-is : whole ≡ cond (answer .whole) 1 0
+
+abbrev pub copied : (number count : ℕ) → Copied
+copied number count = record { number = number; count = count }
+
+abbrev pub poolCounts : (number tiles blocks free entries : ℕ) → PoolCounts
+poolCounts number tiles blocks free entries = record { number = number; tiles = tiles; blocks = blocks; free = free; entries = entries }
 
 abbrev pub highWater : (number entries : ℕ) → HighWater
 highWater number entries = record { number = number; entries = entries }

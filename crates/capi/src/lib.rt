@@ -13,11 +13,12 @@ ghost use Rattle.pool.specs.Opening.{OpenSays};
 ghost use Rattle.shape.specs.declared.Shape.the-variants.{Point, Line, Triangle};
 ghost use Rattle.quarters.specs.Map.{MapSays};
 ghost use Rattle.calls.specs.Tables.{AuditSays, BinSays, BinPixelsSays, ReadSays, HighWaterSays, ReleaseSays};
+ghost use Rattle.calls.specs.Frame.{ReadListSays, ReadAllSays, CountsSays};
 ghost use Rattle.calls.specs.BinList.{BinListSays};
 ghost use Rattle.calls.specs.Questions.{BoxSays, CornerSays};
 ghost use Rattle.calls.specs.Units.{UnitSays};
 ghost use Rattle.calls.specs.Overlaps.{OverlapsSays};
-ghost use Rattle.capi.specs.Faces.{screen, vertex, pixel, binned, released, ToldFound, highWater, rounded, totals, counted, coverNumber, Told};
+ghost use Rattle.capi.specs.Faces.{screen, vertex, pixel, binned, released, ToldFound, copied, poolCounts, highWater, rounded, totals, counted, coverNumber, Told};
 
 // Opens a pool of the first edition: 0, or 1, 2, 3 in that order.
 #[no_mangle]
@@ -70,6 +71,56 @@ pub extern "C" fn flourscoop_read(
     let answer = calls::read(pool, Tile(tile), place);
     *id = answer.id;
     *whole = answer.whole as u32;
+    answer.number
+}
+
+// Writes a tile's list to the start of `entries`: 0 and how many entries there are, or 4, 9, 11 in that order.
+#[no_mangle]
+pub extern "C" fn flourscoop_read_list(
+    pool: &[u32],
+    tile: u32,
+    entries: &mut [u32],
+    count: &mut u32,
+) -> u32
+    ensures { λ r. ⌜ ReadListSays (now (pool .entry)) tile (now (entries .entry)) (copied r (now (count .exit))) (now (entries .exit)) ⌝ }
+{
+    let answer = calls::read_list(pool, Tile(tile), entries);
+    *count = answer.count;
+    answer.number
+}
+
+// Writes all lists to the start of `entries`, and where each starts and the last one ends to that of `starts`: 0 and how many entries there are, or 4, 11 in
+// that order.
+#[no_mangle]
+pub extern "C" fn flourscoop_read_all(
+    pool: &[u32],
+    starts: &mut [u32],
+    entries: &mut [u32],
+    count: &mut u32,
+) -> u32
+    ensures { λ r. ⌜ ReadAllSays (now (pool .entry)) (now (starts .entry)) (now (entries .entry)) (copied r (now (count .exit))) (now (starts .exit)) (now (entries .exit)) ⌝ }
+{
+    let answer = calls::read_all(pool, starts, entries);
+    *count = answer.count;
+    answer.number
+}
+
+// How many tiles, blocks, free blocks and entries a pool has: 0, or 4.
+#[no_mangle]
+pub extern "C" fn flourscoop_counts(
+    pool: &[u32],
+    tiles: &mut u32,
+    blocks: &mut u32,
+    free: &mut u32,
+    entries: &mut u32,
+) -> u32
+    ensures { λ r. ⌜ CountsSays (now (pool .entry)) (poolCounts r (now (tiles .exit)) (now (blocks .exit)) (now (free .exit)) (now (entries .exit))) ⌝ }
+{
+    let answer = calls::counts(pool);
+    *tiles = answer.tiles;
+    *blocks = answer.blocks;
+    *free = answer.free;
+    *entries = answer.entries;
     answer.number
 }
 

@@ -14,7 +14,8 @@ use Rattle.lists.specs.Reach.{BlockIn, Among}
 use Rattle.lists.proofs.Reaches.{block-reach}
 use Rattle.frame.specs.declared.Stretch.{Stretch}
 use Rattle.frame.specs.Frame.{Stretches}
-use Rattle.frame.proofs.Following.{Following, follow-start, follow-part, follow-step, named-in, length-part, getD-part}
+use Rattle.frame.proofs.Following.{Following, follow-start, follow-part, follow-step, named-in}
+use Rattle.frame.proofs.Pieces.{length-part, getD-part}
 
 -- the first `done` entries of a tile's list stand in the buffer from `at` on and before `next`; the link names the block with the next ones
 pub record Copying (L : Layout) (T : ℕ) (p : List ℕ) (t : ℕ) (old : List ℕ) (at : ℕ) (new : List ℕ) (link next : ℕ) : Type 0 where

@@ -5,7 +5,7 @@ use mathlib.Core.List.{List, [], _∷_}
 use Prim.Native.Nat.{ℕ, _+_, _*_, _-_, _≤_, _<_, min}
 use native.Mathlib.Omega.{arith}
 use lib.ListN.{length, getD, take, drop, length-drop, drop-of-length-le}
-use lib.Seq.{length-take-le, getD-take, getD-drop, drop-drop, ext-getD}
+use lib.Seq.{length-take-le, getD-take, drop-drop, ext-getD}
 use Rattle.numbers.proofs.Ceil.{lt-or-ge}
 use Rattle.pool.specs.Words.{Layout, tileWord, blockWord}
 use Rattle.pool.specs.State.{tileOf, linkTo, times, Holds}
@@ -17,14 +17,6 @@ use Rattle.pool.proofs.Lists.{listOf-tile, blocks-enough}
 use Rattle.pool.proofs.Chain.{getD-within}
 use Rattle.lists.specs.Reach.{BlockIn, Among}
 use Rattle.lists.proofs.Reaches.{block-in, shown, roomed}
-
--- ---- a part of a list
-
-pub length-part : (from count : ℕ) (p : List ℕ) → from + count ≤ length p → length (take count (drop from p)) ≡ count
-length-part from count p h = length-take-le count (drop from p) (omega (arith, length-drop from p))
-
-pub getD-part : (from count : ℕ) (p : List ℕ) (j : ℕ) → j < count → getD (take count (drop from p)) j 0 ≡ getD p (from + j) 0
-getD-part from count p j h = getD-take count (drop from p) j 0 h ∙ getD-drop from p j 0
 
 -- a list ends with its last block of entries, full or not
 drop-share : (ids done k : ℕ) (list : List ℕ) → k ≡ min ids (length list - done) → drop (done + ids) list ≡ drop (done + k) list

@@ -1,7 +1,7 @@
 // The lists of a sound pool, read as a whole: one tile's, or all of them one after the other, and how many entries they have together. A chain is followed by
 // stretches: the entries of a list that stand in one block, side by side.
 ghost use mathlib.Core.Path.{_≡_};
-ghost use Prim.Native.Nat.{_+_, _-_, _<_, _≤_};
+ghost use Prim.Native.Nat.{_+_, _-_, _<_, _≤_, min};
 ghost use lib.ListN.{length, take, drop};
 ghost use Rattle.pool.specs.Editions.{layoutFor, Sized};
 ghost use Rattle.pool.specs.Sound.{Sound, tilesOf};
@@ -36,15 +36,50 @@ pub fn stretch_at(pool: &[u32], layout: Edition, tiles: usize, link: u32, left: 
     }
 }
 
-// `count` words of the pool, copied to a place of `list`.
-fn copy(pool: &[u32], from: usize, count: usize, list: &mut [u32], at: usize)
-    requires { ⌜ (from + count ≤ length (now pool)) × (at + count ≤ length (now list)) ⌝ }
-    ensures { λ r. ⌜ now (list .exit) ≡ written (now (list .entry)) at (take count (drop from (now (pool .entry)))) ⌝ }
+// `count` words, copied from a place of one slice to a place of another, one after the other.
+fn copy_singly(words: &[u32], from: usize, count: usize, list: &mut [u32], at: usize)
+    requires { ⌜ (from + count ≤ length (now words)) × (at + count ≤ length (now list)) ⌝ }
+    ensures { λ r. ⌜ now (list .exit) ≡ written (now (list .entry)) at (take count (drop from (now (words .entry)))) ⌝ }
 {
     let mut k = 0;
     while k < count {
-        list[at + k] = pool[from + k];
+        list[at + k] = words[from + k];
         k += 1;
+    }
+}
+
+// Eight words, held on the way, where no other write is: the compiler makes two vectors of them.
+fn copy_eight(words: &[u32], from: usize, list: &mut [u32], at: usize)
+    requires { ⌜ (from + 8 ≤ length (now words)) × (at + 8 ≤ length (now list)) ⌝ }
+    ensures { λ r. ⌜ now (list .exit) ≡ written (now (list .entry)) at (take 8 (drop from (now (words .entry)))) ⌝ }
+{
+    let mut held = [0u32; 8];
+    copy_singly(words, from, 8, &mut held, 0);
+    copy_singly(&held, 0, 8, list, at);
+}
+
+// The lesser of two.
+fn lesser(a: usize, b: usize) -> usize
+    ensures { λ r. ⌜ r ≡ min a b ⌝ }
+{
+    if a < b { a } else { b }
+}
+
+// `count` words, eight at a time. The last eight end with the last word, and may have words in common with those before, which are then written twice.
+fn copy(words: &[u32], from: usize, count: usize, list: &mut [u32], at: usize)
+    requires { ⌜ (from + count ≤ length (now words)) × (at + count ≤ length (now list)) ⌝ }
+    ensures { λ r. ⌜ now (list .exit) ≡ written (now (list .entry)) at (take count (drop from (now (words .entry)))) ⌝ }
+{
+    if count < 8 {
+        copy_singly(words, from, count, list, at);
+        return;
+    }
+    let last = count - 8;
+    let mut done = 0;
+    while done < count {
+        let k = lesser(done, last);
+        copy_eight(words, from + k, list, at + k);
+        done = k + 8;
     }
 }
 

@@ -1,62 +1,90 @@
--- `copy`: after k words, writing the rest from there on gives what is promised; with none left, the words are that.
-use denote.Ref.{now}
-use Rattle.frame.proofs.Following.{length-part, getD-part}
-use Prim.Native.Nat.{_-_}
-use mathlib.Core.Path.{sym}
-use lib.ListN.{take, drop}
-use Rattle.pool.proofs.Putting.{Writing, write-start, write-step, write-end}
-use borrow.Author.Needs.{needs}
+-- `copy`: the first `done` words are written; the next eight begin no later than these end.
+use mathlib.Core.Path.{_≡_, refl, sym, ap, _∙_}
+use mathlib.Core.List.{List}
+use Prim.Native.Nat.{ℕ, _+_, _-_, _≤_, _<_}
 use native.Mathlib.Omega.{arith}
+use denote.Ref.{now}
+use lib.ListN.{length, take, drop, length-drop}
+use lib.Seq.{drop-drop}
+use Rattle.pool.specs.Written.{written}
+use Rattle.pool.proofs.Written.{length-written, written-none}
+use Rattle.frame.proofs.Pieces.{written-piece}
+use borrow.Author.Needs.{needs}
 use Rattle.frame.proofs.copy.Statement.{statement}
 use Rattle.frame.proofs.copy.Tie as tie
 
 abbrev Inv-loop : tie.InvT-loop
-Inv-loop pool from count list₀ at k₀ list k = Writing list₀ at (take count (drop from pool)) list k
+Inv-loop words from count list₀ at last done₀ list done = (list ≡ written list₀ at (take done (drop from words))) × (done ≤ count) × (length list ≡ length list₀)
 
 abbrev μ-loop : tie.MeasureT-loop
-μ-loop pool from count list₀ at k₀ list k = count - k
+μ-loop words from count list₀ at last done₀ list done = count - done
+
+-- where the next eight words begin
+place : (c : tie.After-lesser Inv-loop μ-loop) → let l = c .before .before in let k = c .lesser .result in
+    (k ≤ l .loop .done) × (l .loop .done < k + 8) × (k + 8 ≤ l .before .before .before .before .args .count)
+place c =
+    let l = c .before .before in
+    (omega (arith, c .lesser .ensures), omega (arith, c .lesser .ensures, c .before .loop-test .taken), omega (arith, c .lesser .ensures, l .before .if1 .left))
+
+copy-singly-requires : tie.Need-copy-singly-requires Inv-loop μ-loop
+copy-singly-requires c κs = search needs
+
+same-length : tie.Need-same-length Inv-loop μ-loop
+same-length c = search needs
+
+returns : tie.Need-returns Inv-loop μ-loop
+returns c = c .before .before .copy-singly .ensures
 
 loop-holds : tie.Need-loop-holds Inv-loop μ-loop
-loop-holds c = write-start _ _ _
+loop-holds c = (sym (written-none _ _), omega arith, refl)
 
-add-list : tie.Need-add-list Inv-loop μ-loop
-add-list c = search needs
+lesser-requires : tie.Need-lesser-requires Inv-loop μ-loop
+lesser-requires c κs = search needs
 
-mul-list : tie.Need-mul-list Inv-loop μ-loop
-mul-list c = search needs
+add-copy-eight : tie.Need-add-copy-eight Inv-loop μ-loop
+add-copy-eight c = omega (arith, place c, c .before .before .before .before .before .before .pre)
 
-shared-slice-read-list : tie.Need-shared-slice-read-list Inv-loop μ-loop
-shared-slice-read-list c = search needs
+add-copy-eight-2 : tie.Need-add-copy-eight-2 Inv-loop μ-loop
+add-copy-eight-2 c = omega (arith, place (c .before), c .before .before .before .before .before .before .before .pre)
 
-add-list-2 : tie.Need-add-list-2 Inv-loop μ-loop
-add-list-2 c = search needs
+copy-eight-requires : tie.Need-copy-eight-requires Inv-loop μ-loop
+copy-eight-requires c κs =
+    let v = c .before in
+    let l = v .before .before in
+    let s = l .before .before .before .before in
+    (omega (arith, place v, s .pre .0), omega (arith, place v, s .pre .1, l .loop .inv .2))
 
-mul-list-2 : tie.Need-mul-list-2 Inv-loop μ-loop
-mul-list-2 c = search needs
-
-slice-write-list : tie.Need-slice-write-list Inv-loop μ-loop
-slice-write-list c = search needs
-
-add-k : tie.Need-add-k Inv-loop μ-loop
-add-k c = search needs
+add-done : tie.Need-add-done Inv-loop μ-loop
+add-done c = omega (arith, place (c .before .before .before .before))
 
 loop-less : tie.Need-loop-less Inv-loop μ-loop
-loop-less c = search needs
+loop-less c = omega (arith, place (c .before .before .before .before))
 
 loop-again : tie.Need-loop-again Inv-loop μ-loop
 loop-again c =
-    let a = c .before .before .before .args in
-    let w = length-part (a .from) (a .count) (now (a .pool)) (c .before .before .before .pre .0) in
-    write-step _ (c .before .before .loop .inv) (omega arith) (sym (getD-part (a .from) (a .count) (now (a .pool)) _ (omega arith)))
+    let u = c .before .before in
+    let v = u .before .before in
+    let l = v .before .before in
+    let s = l .before .before .before .before in
+    let a = s .args in
+    let k = v .lesser .result in
+    let rest = drop (a .from) (now (a .words)) in
+    let put : List ℕ → List ℕ → List ℕ = λ q w. written q (a .at + k) (take 8 w) in
+    let here = place v in
+    let e = u .copy-eight .ensures ∙ ap (λ (q : List ℕ). put q (drop (a .from + k) (now (a .words)))) (l .loop .inv .0)
+    ∙ ap (put (written (now (a .list)) (a .at) (take (l .loop .done) rest))) (sym (drop-drop k (a .from) (now (a .words))))
+    ∙ written-piece (now (a .list)) (a .at) rest (l .loop .done) k 8 (here .0) (omega (arith, here .1))
+    (omega (arith, here .2, s .pre .0, length-drop (a .from) (now (a .words)))) in
+    (e, here .2, ap length e ∙ length-written _ _ _)
 
-same-length : tie.Need-same-length Inv-loop μ-loop
-same-length c = c .before .loop .inv .long
+same-length-2 : tie.Need-same-length-2 Inv-loop μ-loop
+same-length-2 c = c .before .loop .inv .2
 
-returns : tie.Need-returns Inv-loop μ-loop
-returns c =
-    let a = c .before .before .args in
-    let w = length-part (a .from) (a .count) (now (a .pool)) (c .before .before .pre .0) in
-    write-end (c .before .loop .inv) (omega arith)
+returns-2 : tie.Need-returns-2 Inv-loop μ-loop
+returns-2 c =
+    let l = c .before in
+    let e : l .loop .done ≡ l .before .before .before .before .args .count = omega (arith, l .loop .inv .1, c .loop-test .left) in
+    rw e at (l .loop .inv .0)
 
 pub copy-spec : {M : Type 1} → statement M
 copy-spec =
@@ -64,15 +92,16 @@ copy-spec =
     (tie.spec
     Inv-loop
     μ-loop
+    copy-singly-requires
+    same-length
+    returns
     loop-holds
-    add-list
-    mul-list
-    shared-slice-read-list
-    add-list-2
-    mul-list-2
-    slice-write-list
-    add-k
+    lesser-requires
+    add-copy-eight
+    add-copy-eight-2
+    copy-eight-requires
+    add-done
     loop-less
     loop-again
-    same-length
-    returns)
+    same-length-2
+    returns-2)

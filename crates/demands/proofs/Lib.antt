@@ -18,3 +18,4 @@ pub mod BinList
 pub mod Flags
 pub mod Price
 pub mod Map
+pub mod Frame

@@ -13,3 +13,4 @@ pub mod BinList
 pub mod Flags
 pub mod Price
 pub mod Map
+pub mod Frame

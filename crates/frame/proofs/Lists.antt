@@ -1,7 +1,7 @@
 -- Laws of all lists, one after the other, and of where each starts.
-use mathlib.Core.Path.{_≡_, sym, ap, _∙_}
+use mathlib.Core.Path.{_≡_, refl, sym, ap, _∙_}
 use mathlib.Core.Logic.{⊎-elim}
-use mathlib.Core.List.{List, [], _++_}
+use mathlib.Core.List.{List, [], _++_, append-nil, append-assoc}
 use Prim.Native.Nat.{ℕ, zero, suc, _+_, _*_, _^_, _≤_, _<_}
 use native.Mathlib.Nat.{mul-le-mul-right}
 use native.Mathlib.Numerals.{add-one}
@@ -34,6 +34,17 @@ module _ (L : Layout) (T : ℕ) (p : List ℕ) where
       ⊎-elim
       (λ (l : n < t). let e : t ≡ suc n = omega arith in rw e (omega arith))
       (λ (g : t ≤ n). omega (arith, lists-grow t n g, length-append (listsOf L T p n) (listOf L T p n)))
+      (lt-or-ge n t)
+
+  -- and begin with those of fewer
+  pub lists-split : (t n : ℕ) → t ≤ n → (rest : List ℕ) × (listsOf L T p n ≡ listsOf L T p t ++ rest)
+  lists-split t zero h = let z : t ≡ 0 = omega arith in rw z ([], refl)
+  lists-split t (suc n) h =
+      ⊎-elim
+      (λ (l : n < t). let e : t ≡ suc n = omega arith in rw e ([], sym (append-nil (listsOf L T p (suc n)))))
+      (λ (g : t ≤ n).
+      let k = lists-split t n g in
+      (k .0 ++ listOf L T p n, ap (λ (l : List ℕ). l ++ listOf L T p n) (k .1) ∙ append-assoc (listsOf L T p t) (k .0) (listOf L T p n)))
       (lt-or-ge n t)
 
   pub start-at : (t : ℕ) → t ≤ T → getD (startsOf L T p) t 0 ≡ length (listsOf L T p t)

@@ -1,5 +1,5 @@
 -- The list that is read off the words of a tile is the list that the state says.
-use mathlib.Core.Path.{_≡_, refl, ap, _∙_}
+use mathlib.Core.Path.{_≡_, refl, ap, ap₂, _∙_}
 use mathlib.Core.Logic.{⊎-elim}
 use mathlib.Core.List.{List, [], _∷_, _++_}
 use Prim.Native.Nat.{ℕ, zero, suc, _+_, _*_, _-_, _≤_, _<_}
@@ -23,6 +23,10 @@ pub getD-table : (n : ℕ) (f : ℕ → ℕ) (k d : ℕ) → k < n → getD (tab
 getD-table zero f k d h = absurd (not-suc-le-zero h)
 getD-table (suc n) f zero d h = refl
 getD-table (suc n) f (suc k) d h = getD-table n (λ j. f (suc j)) k d (le-of-suc-le-suc h)
+
+pub table-same : (n : ℕ) (f g : ℕ → ℕ) → ((k : ℕ) → k < n → f k ≡ g k) → table n f ≡ table n g
+table-same zero f g h = refl
+table-same (suc n) f g h = ap₂ (λ (x : ℕ) (xs : List ℕ). x ∷ xs) (h 0 (omega arith)) (table-same n (λ k. f (suc k)) (λ k. g (suc k)) (λ k l. h (suc k) (omega arith)))
 
 -- ---- the places of a chain, gathered
 

@@ -1,11 +1,11 @@
 -- A list that is written into another from a place on, one number after the other; and one list put behind another.
 use mathlib.Core.Path.{_≡_, refl, sym, ap, _∙_}
-use mathlib.Core.List.{List, [], _++_}
+use mathlib.Core.List.{List, [], _∷_, _++_}
 use Prim.Native.Nat.{ℕ, suc, _+_, _≤_, _<_}
 use native.Mathlib.Numerals.{add-one}
 use native.Mathlib.Omega.{arith}
 use lib.ListN.{length, getD, set, take, drop, length-append, length-set, drop-of-length-le}
-use lib.Seq.{drop-cons, take-at}
+use lib.Seq.{drop-cons, take-at, getD-take, getD-set-other}
 use Rattle.pool.specs.Written.{written, Puts}
 use Rattle.pool.proofs.Written.{length-written, written-none, written-next, written-append, written-is}
 
@@ -40,6 +40,18 @@ write-end {p₀} {at} {list} {p} {k} W h =
 -- what was written at the start is there
 pub take-written : (p list : List ℕ) → length list ≤ length p → take (length list) (written p 0 list) ≡ list
 take-written p list h = ap (take (length list)) (written-is p 0 list (omega arith)) ∙ take-at list (drop (0 + length list) p) (length list) refl
+
+-- each number of it, too, and behind it everything is as it was
+pub written-at : (p list : List ℕ) → length list ≤ length p → (i : ℕ) → i < length list → getD (written p 0 list) i 0 ≡ getD list i 0
+written-at p list h i l =
+    sym (getD-take (length list) (written p 0 list) i 0 l) ∙ ap (λ (q : List ℕ). getD q i 0) (take-written p list h)
+
+pub written-past : (p : List ℕ) (from : ℕ) (list : List ℕ) (i : ℕ) → from + length list ≤ i → getD (written p from list) i 0 ≡ getD p i 0
+written-past p from [] i h = ap (λ (q : List ℕ). getD q i 0) (written-none p from)
+written-past p from (x ∷ list) i h =
+    ap (λ (q : List ℕ). getD q i 0) (written-next p from x list)
+    ∙ written-past (set p from x) (suc from) list i (omega arith)
+    ∙ getD-set-other p from i x 0 (omega arith)
 
 -- ---- one list behind another
 

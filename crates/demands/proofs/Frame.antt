@@ -1,5 +1,5 @@
 -- The calls that read lists as a whole: demand 1 holds of them, their contracts admit one outcome only, each list stands where the starts say, they agree with
--- single reads, and pools with the same lists answer alike.
+-- single reads, and pools with the same lists answer alike: two pools of demand 3, and two slices with the same words in the room.
 use mathlib.Core.Path.{_≡_, refl, sym, ap, ap₂, subst, _∙_}
 use mathlib.Core.Logic.{_⊎_, inl, inr}
 use mathlib.Core.List.{List, _++_, append-assoc}
@@ -23,8 +23,9 @@ use Rattle.calls.specs.declared.PoolCounts.{PoolCounts}
 use Rattle.calls.specs.Tables.{listIn, freeIn, notFound, foundIn, ReadSays}
 use Rattle.calls.specs.Frame.{listsIn, startsIn, notCopied, ReadListSays, ReadAllSays, CountsSays}
 use Rattle.demands.specs.Demand1.{Outside}
-use Rattle.demands.specs.Frame.{Demand1ReadList, Demand1ReadAll, Demand1Counts, Stands, AllStand, AllListsStand, AgreesWithReads, withMore, ReadAlike, Demand3Frame}
+use Rattle.demands.specs.Frame.{Demand1ReadList, Demand1ReadAll, Demand1Counts, Stands, AllStand, AllListsStand, AgreesWithReads, withMore, ReadAlike, Demand3Frame, PastTheRoomFrame}
 use Rattle.demands.proofs.Runs.{run-stays}
+use Rattle.demands.proofs.Room.{same-sound, same-sym, tiles-same, blocks-same, free-same, lists-same}
 use Rattle.demands.proofs.Demand3.{accepted-opening, fresh, demand-3}
 
 number-of : {a : Copied} {n c : ℕ} → a ≡ record { number = n; count = c } → a .number ≡ n
@@ -167,52 +168,66 @@ agrees-with-reads p t e₀ a e (ReadListSays.done S h l r f) z place b (ReadSays
 
 -- ---- pools with the same lists
 
-module _ (p q : List ℕ) (S : Sound (layoutOf p) p) (same-tiles : tilesOf q ≡ tilesOf p) (same : (t : ℕ) → t < tilesOf p → listIn q t ≡ listIn p t) where
-  first-same : (n : ℕ) → n ≤ tilesOf p → listsOf (layoutOf q) (tilesOf q) q n ≡ listsOf (layoutOf p) (tilesOf p) p n
-  first-same zero h = refl
-  first-same (suc t) h = ap₂ (λ (x y : List ℕ). x ++ y) (first-same t (omega arith)) (same t h)
+-- both are sound or neither is, and then their lists agree
+module _ (p q : List ℕ) (to : Sound (layoutOf p) p → Sound (layoutOf q) q) (back : Sound (layoutOf q) q → Sound (layoutOf p) p)
+    (same-tiles : tilesOf q ≡ tilesOf p) (same : Sound (layoutOf p) p → (t : ℕ) → t < tilesOf p → listIn q t ≡ listIn p t) where
+  first-alike : Sound (layoutOf p) p → (n : ℕ) → n ≤ tilesOf p → listsOf (layoutOf q) (tilesOf q) q n ≡ listsOf (layoutOf p) (tilesOf p) p n
+  first-alike S zero h = refl
+  first-alike S (suc t) h = ap₂ (λ (x y : List ℕ). x ++ y) (first-alike S t (omega arith)) (same S t h)
 
-  lists-alike : listsIn q ≡ listsIn p
-  lists-alike = ap (listsOf (layoutOf q) (tilesOf q) q) same-tiles ∙ first-same (tilesOf p) (omega arith)
+  lists-alike : Sound (layoutOf p) p → listsIn q ≡ listsIn p
+  lists-alike S = ap (listsOf (layoutOf q) (tilesOf q) q) same-tiles ∙ first-alike S (tilesOf p) (omega arith)
 
-  starts-alike : startsIn q ≡ startsIn p
-  starts-alike =
+  starts-alike : Sound (layoutOf p) p → startsIn q ≡ startsIn p
+  starts-alike S =
       ap (λ (n : ℕ). table (suc n) (λ t. length (listsOf (layoutOf q) (tilesOf q) q t))) same-tiles
-      ∙ table-same (suc (tilesOf p)) _ _ (λ t h. ap length (first-same t (omega arith)))
+      ∙ table-same (suc (tilesOf p)) _ _ (λ t h. ap length (first-alike S t (omega arith)))
 
-  as-of-the-first : {t : ℕ} {e₀ : List ℕ} {b : Copied} {f : List ℕ} → Sound (layoutOf q) q → ReadListSays q t e₀ b f → ReadListSays p t e₀ b f
-  as-of-the-first S′ (ReadListSays.damaged n r f) = absurd (n S′)
-  as-of-the-first S′ (ReadListSays.no-tile _ h r f) = ReadListSays.no-tile S (omega arith) r f
-  as-of-the-first {t} {e₀} S′ (ReadListSays.too-short _ h l r f) =
+  -- an answer of the second is one of the first
+  list-back : {t : ℕ} {e₀ : List ℕ} {b : Copied} {f : List ℕ} → ReadListSays q t e₀ b f → ReadListSays p t e₀ b f
+  list-back (ReadListSays.damaged n r f) = ReadListSays.damaged (λ S. n (to S)) r f
+  list-back (ReadListSays.no-tile S h r f) = ReadListSays.no-tile (back S) (omega arith) r f
+  list-back {t} {e₀} (ReadListSays.too-short S h l r f) =
       let h′ : t < tilesOf p = omega arith in
-      ReadListSays.too-short S h′ (omega (arith, ap length (same t h′))) r f
-  as-of-the-first {t} {e₀} S′ (ReadListSays.done _ h l r f) =
+      ReadListSays.too-short (back S) h′ (omega (arith, ap length (same (back S) t h′))) r f
+  list-back {t} {e₀} (ReadListSays.done S h l r f) =
       let h′ : t < tilesOf p = omega arith in
-      ReadListSays.done S h′ (omega (arith, ap length (same t h′))) (r ∙ (λ i. record { number = 0; count = length (same t h′ i) })) (f ∙ ap (written e₀ 0) (same t h′))
+      let e = same (back S) t h′ in
+      ReadListSays.done (back S) h′ (omega (arith, ap length e)) (r ∙ (λ i. record { number = 0; count = length (e i) })) (f ∙ ap (written e₀ 0) e)
 
-  short-of-the-first : {m n : ℕ} → (m ≤ tilesOf q) ⊎ (n < length (listsIn q)) → (m ≤ tilesOf p) ⊎ (n < length (listsIn p))
-  short-of-the-first (inl h) = inl (omega arith)
-  short-of-the-first (inr h) = inr (omega (arith, ap length lists-alike))
+  short-back : Sound (layoutOf p) p → {m n : ℕ} → (m ≤ tilesOf q) ⊎ (n < length (listsIn q)) → (m ≤ tilesOf p) ⊎ (n < length (listsIn p))
+  short-back S (inl h) = inl (omega arith)
+  short-back S (inr h) = inr (omega (arith, ap length (lists-alike S)))
 
-  all-as-of-the-first : {s₀ e₀ : List ℕ} {b : Copied} {u f : List ℕ} → Sound (layoutOf q) q → ReadAllSays q s₀ e₀ b u f → ReadAllSays p s₀ e₀ b u f
-  all-as-of-the-first S′ (ReadAllSays.damaged n r f g) = absurd (n S′)
-  all-as-of-the-first S′ (ReadAllSays.too-short _ h r f g) = ReadAllSays.too-short S (short-of-the-first h) r f g
-  all-as-of-the-first {s₀} {e₀} S′ (ReadAllSays.done _ k l r f g) =
-      ReadAllSays.done S (omega arith) (omega (arith, ap length lists-alike)) (r ∙ (λ i. record { number = 0; count = length (lists-alike i) }))
-      (f ∙ ap (written s₀ 0) starts-alike) (g ∙ ap (written e₀ 0) lists-alike)
+  all-back : {s₀ e₀ : List ℕ} {b : Copied} {u f : List ℕ} → ReadAllSays q s₀ e₀ b u f → ReadAllSays p s₀ e₀ b u f
+  all-back (ReadAllSays.damaged n r f g) = ReadAllSays.damaged (λ S. n (to S)) r f g
+  all-back (ReadAllSays.too-short S h r f g) = ReadAllSays.too-short (back S) (short-back (back S) h) r f g
+  all-back {s₀} {e₀} (ReadAllSays.done S k l r f g) =
+      let e = lists-alike (back S) in
+      ReadAllSays.done (back S) (omega arith) (omega (arith, ap length e)) (r ∙ (λ i. record { number = 0; count = length (e i) }))
+      (f ∙ ap (written s₀ 0) (starts-alike (back S))) (g ∙ ap (written e₀ 0) e)
 
-  counts-alike : (n : ℕ) → blocksOf q ≡ blocksOf p + n → freeIn q ≡ freeIn p + n → Sound (layoutOf q) q → (a b : PoolCounts) → CountsSays p a → CountsSays q b → b ≡ withMore n a
-  counts-alike n blocks free S′ a b (CountsSays.damaged bad e) c = absurd (bad S)
-  counts-alike n blocks free S′ a b (CountsSays.done _ e) (CountsSays.damaged bad e′) = absurd (bad S′)
-  counts-alike n blocks free S′ a b (CountsSays.done _ e) (CountsSays.done _ e′) =
-      e′ ∙ (λ i. record { number = 0; tiles = same-tiles i; blocks = blocks i; free = free i; entries = length (lists-alike i) }) ∙ sym (ap (withMore n) e)
-
-  pub read-alike : (n : ℕ) → Sound (layoutOf q) q → blocksOf q ≡ blocksOf p + n → freeIn q ≡ freeIn p + n → ReadAlike n p q
-  read-alike n S′ blocks free = record {
-    list = λ t e₀ a b e f A B. read-list-one-outcome A (as-of-the-first S′ B);
-    all = λ s₀ e₀ a b s e u f A B. read-all-one-outcome A (all-as-of-the-first S′ B);
-    counts = counts-alike n blocks free S′;
+  pub read-alike : (more : PoolCounts → PoolCounts) → ((a b : PoolCounts) → CountsSays p a → CountsSays q b → b ≡ more a) → ReadAlike more p q
+  read-alike more counts = record {
+    list = λ t e₀ a b e f A B. read-list-one-outcome A (list-back B);
+    all = λ s₀ e₀ a b s e u f A B. read-all-one-outcome A (all-back B);
+    counts = counts;
   }
+
+  -- sound pools, the second with n blocks more, which are free
+  pub counts-more : (n : ℕ) → blocksOf q ≡ blocksOf p + n → freeIn q ≡ freeIn p + n → Sound (layoutOf p) p → (a b : PoolCounts)
+      → CountsSays p a → CountsSays q b → b ≡ withMore n a
+  counts-more n blocks free S a b (CountsSays.damaged bad e) c = absurd (bad S)
+  counts-more n blocks free S a b (CountsSays.done _ e) (CountsSays.damaged bad e′) = absurd (bad (to S))
+  counts-more n blocks free S a b (CountsSays.done _ e) (CountsSays.done _ e′) =
+      e′ ∙ (λ i. record { number = 0; tiles = same-tiles i; blocks = blocks i; free = free i; entries = length (lists-alike S i) }) ∙ sym (ap (withMore n) e)
+
+  -- pools with as many
+  pub counts-back : blocksOf q ≡ blocksOf p → freeIn q ≡ freeIn p → {b : PoolCounts} → CountsSays q b → CountsSays p b
+  counts-back blocks free (CountsSays.damaged n e) = CountsSays.damaged (λ S. n (to S)) e
+  counts-back blocks free (CountsSays.done S e) =
+      CountsSays.done (back S)
+      (e ∙ (λ i. record { number = 0; tiles = same-tiles i; blocks = blocks i; free = free i; entries = length (lists-alike (back S) i) }))
 
 pub demand-3-frame : Demand3Frame
 demand-3-frame L d N n p₁ p₂ O h₁ q₁ R₁ h₂ q₂ calls R₂ =
@@ -221,7 +236,21 @@ demand-3-frame L d N n p₁ p₂ O h₁ q₁ R₁ h₂ q₂ calls R₂ =
     let K₁ = run-stays p₁ h₁ q₁ (P₁ .sound) R₁ in
     let K₂ = run-stays p₂ h₂ q₂ (P₂ .sound) R₂ in
     let D = demand-3 L d N n p₁ p₂ O h₁ q₁ R₁ h₂ q₂ calls R₂ in
+    let S₁ : Sound (layoutOf q₁) q₁ = K₁ .sound in
+    let S₂ : Sound (layoutOf q₂) q₂ = K₂ .sound in
     let tiles₁ : tilesOf q₁ ≡ tiles d = ap tiles (K₁ .screen ∙ P₁ .screen) in
     let tiles₂ : tilesOf q₂ ≡ tiles d = ap tiles (K₂ .screen ∙ P₂ .screen) in
+    let same-tiles = tiles₂ ∙ sym tiles₁ in
+    let lists : Sound (layoutOf q₁) q₁ → (t : ℕ) → t < tilesOf q₁ → listIn q₂ t ≡ listIn q₁ t
+    = (λ _ t h. D .lists t (subst (λ (T : ℕ). t < T) tiles₁ h)) in
     let blocks : blocksOf q₂ ≡ blocksOf q₁ + n = omega (arith, K₁ .blocks, P₁ .blocks, K₂ .blocks, P₂ .blocks) in
-    read-alike q₁ q₂ (K₁ .sound) (tiles₂ ∙ sym tiles₁) (λ t h. D .lists t (subst (λ (T : ℕ). t < T) tiles₁ h)) n (K₂ .sound) blocks (D .free)
+    read-alike q₁ q₂ (λ _. S₂) (λ _. S₁) same-tiles lists (withMore n) (counts-more q₁ q₂ (λ _. S₂) (λ _. S₁) same-tiles lists n blocks (D .free) S₁)
+
+-- ---- words past the room
+
+pub past-the-room-frame : PastTheRoomFrame
+past-the-room-frame p₁ p₂ R =
+    let to : Sound (layoutOf p₁) p₁ → Sound (layoutOf p₂) p₂ = same-sound R in
+    let back : Sound (layoutOf p₂) p₂ → Sound (layoutOf p₁) p₁ = same-sound (same-sym R) in
+    read-alike p₁ p₂ to back (tiles-same R) (lists-same R) (λ a. a)
+    (λ a b A B. sym (counts-one-outcome A (counts-back p₁ p₂ to back (tiles-same R) (lists-same R) (blocks-same R) (free-same R) B)))

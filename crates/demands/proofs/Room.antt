@@ -80,10 +80,13 @@ module _ {p w : List ℕ} (S : SameRoom p w) where
   unsound : (Sound (layoutOf p) p → ⊥) → Sound (layoutOf w) w → ⊥
   unsound n P = n (same-sound (same-sym S) P)
 
-  tiles-same : tilesOf w ≡ tilesOf p
+  pub tiles-same : tilesOf w ≡ tilesOf p
   tiles-same = agree-tiles (layout-fair p) (agree S)
 
-  free-same : freeIn w ≡ freeIn p
+  pub blocks-same : blocksOf w ≡ blocksOf p
+  blocks-same = header-agrees (agree S) 3 (omega (arith, layout-fair p .header>))
+
+  pub free-same : freeIn w ≡ freeIn p
   free-same = header-agrees (agree S) 4 (omega (arith, layout-fair p .header>))
 
   need-same : {ts : List ℕ} → Distinct (tilesOf p) ts → need (layoutOf w) w ts ≡ need (layoutOf p) p ts
@@ -113,7 +116,7 @@ module _ {p w : List ℕ} (S : SameRoom p w) where
     together : Together (layoutOf p) (tilesOf p) (blocksOf p) p w
     together = record { long = P .opened .long; long′ = S .long .0 (P .opened .long); agree = agree S }
 
-    lists-same : (t : ℕ) → t < tilesOf p → listIn w t ≡ listIn p t
+    pub lists-same : (t : ℕ) → t < tilesOf p → listIn w t ≡ listIn p t
     lists-same t ht =
         ap₂ (λ (L : Layout) (T : ℕ). listOf L T w t) same tiles-same
         ∙ listOf-shows (layout-fair p) (agree-shows (agree S) (layout-fair p) (P .shows)) t ht

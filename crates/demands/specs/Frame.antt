@@ -1,5 +1,5 @@
--- The calls that read lists as a whole: demand 1 of them, where each list stands, that they agree with single reads, and that two pools of demand 3 get the
--- same answers.
+-- The calls that read lists as a whole: demand 1 of them, where each list stands, that they agree with single reads, that two pools of demand 3 get the
+-- same answers, and that words past the room do not matter.
 use mathlib.Core.Path.{_≡_}
 use mathlib.Core.Logic.{_≢_, _⊎_}
 use mathlib.Core.List.{List, [], _∷_}
@@ -16,6 +16,7 @@ use Rattle.calls.specs.Frame.{ReadListSays, ReadAllSays, CountsSays}
 use Rattle.demands.specs.History.{Entry, Run, callsOf, lessRoom}
 use Rattle.demands.specs.Demand1.{Among, Outside}
 use Rattle.demands.specs.Demand3.{Openings}
+use Rattle.demands.specs.Room.{SameRoom}
 
 -- ---- demand 1: a refusal gives one of its numbers, counts nothing and leaves every word; an accepted call writes no word past the entries and the starts
 
@@ -63,15 +64,22 @@ AgreesWithReads =
 abbrev pub withMore : (n : ℕ) → PoolCounts → PoolCounts
 withMore n a = record { number = a .number; tiles = a .tiles; blocks = a .blocks + n; free = a .free + n; entries = a .entries }
 
--- each of these calls gets the same answer from both and leaves the same words, but for the blocks and the free ones, of which the second has n more
-pub record ReadAlike (n : ℕ) (p q : List ℕ) : Type 0 where
+-- each of these calls gets the same answer from both and leaves the same words; but for what the pools hold in sum, where the second answers what `more` makes
+-- of the first's answer
+pub record ReadAlike (more : PoolCounts → PoolCounts) (p q : List ℕ) : Type 0 where
   pub list : (t : ℕ) (e₀ : List ℕ) (a b : Copied) (e f : List ℕ) → ReadListSays p t e₀ a e → ReadListSays q t e₀ b f → (a ≡ b) × (e ≡ f)
   pub all : (s₀ e₀ : List ℕ) (a b : Copied) (s e u f : List ℕ) → ReadAllSays p s₀ e₀ a s e → ReadAllSays q s₀ e₀ b u f → (a ≡ b) × (s ≡ u) × (e ≡ f)
-  pub counts : (a b : PoolCounts) → CountsSays p a → CountsSays q b → b ≡ withMore n a
+  pub counts : (a b : PoolCounts) → CountsSays p a → CountsSays q b → b ≡ more a
 
 abbrev pub Demand3Frame : Type 0
 Demand3Frame =
     (L : Layout) (d : Screen) (N n : ℕ) (p₁ p₂ : List ℕ) → Openings L d N n p₁ p₂
     → (h₁ : List Entry) (q₁ : List ℕ) → Run p₁ h₁ q₁
     → (h₂ : List Entry) (q₂ : List ℕ) → callsOf h₂ ≡ callsOf (lessRoom h₁) → Run p₂ h₂ q₂
-    → ReadAlike n q₁ q₂
+    → ReadAlike (withMore n) q₁ q₂
+
+-- ---- words past the room
+
+-- two slices with the same words in the room get the same answers
+abbrev pub PastTheRoomFrame : Type 0
+PastTheRoomFrame = (p₁ p₂ : List ℕ) → SameRoom p₁ p₂ → ReadAlike (λ a. a) p₁ p₂

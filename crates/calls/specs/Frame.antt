@@ -1,5 +1,5 @@
--- The tables of the calls that read lists as a whole: one tile's, all tiles', and how much the pool holds in sum. They change no word of the pool. A row has its
--- cause, with no earlier one applying, and then the whole outcome: the answer a, and what is left of the words that were lent for starts and entries.
+-- The tables of the calls that read lists as a whole: one tile's, all tiles', and how much the pool holds in sum. They change no word of the pool. A row has
+-- its cause, with no earlier one applying, and then the whole outcome: the answer a, and what is left of the words that were lent for starts and entries.
 use mathlib.Core.Path.{_≡_}
 use mathlib.Core.Logic.{_⊎_}
 use mathlib.Core.List.{List}

@@ -18,7 +18,8 @@ ghost use Rattle.calls.specs.BinList.{BinListSays};
 ghost use Rattle.calls.specs.Questions.{BoxSays, CornerSays};
 ghost use Rattle.calls.specs.Units.{UnitSays};
 ghost use Rattle.calls.specs.Overlaps.{OverlapsSays};
-ghost use Rattle.capi.specs.Faces.{screen, vertex, pixel, binned, released, ToldFound, copied, poolCounts, highWater, rounded, totals, counted, coverNumber, Told};
+ghost use Rattle.capi.specs.Faces.{screen, vertex, pixel, binned, released, ToldFound, copied, poolCounts, highWater};
+ghost use Rattle.capi.specs.Faces.{rounded, totals, counted, coverNumber, Told};
 
 // Opens a pool of the first edition: 0, or 1, 2, 3 in that order.
 #[no_mangle]

@@ -9,7 +9,7 @@ use lib.ListN.{length, getD, take, drop, length-append}
 use lib.Seq.{drop-at, take-at}
 use Rattle.screen.specs.Screen.{tiles}
 use Rattle.pool.specs.Words.{layoutOf}
-use Rattle.pool.specs.Sound.{Sound, screenOf, tilesOf, blocksOf}
+use Rattle.pool.specs.Sound.{Sound, tilesOf, blocksOf}
 use Rattle.pool.specs.Lists.{table}
 use Rattle.pool.specs.Written.{written}
 use Rattle.pool.proofs.Lists.{table-same}
@@ -17,13 +17,13 @@ use Rattle.pool.proofs.Written.{length-written, written-is}
 use Rattle.pool.proofs.Putting.{written-at, written-past}
 use Rattle.frame.specs.Frame.{listsOf}
 use Rattle.frame.proofs.Lists.{lists-split, start-at, starts-long}
-use Rattle.calls.specs.declared.Found.{Found}
 use Rattle.calls.specs.declared.Copied.{Copied}
 use Rattle.calls.specs.declared.PoolCounts.{PoolCounts}
-use Rattle.calls.specs.Tables.{listIn, freeIn, notFound, foundIn, ReadSays}
-use Rattle.calls.specs.Frame.{listsIn, startsIn, notCopied, ReadListSays, ReadAllSays, CountsSays}
+use Rattle.calls.specs.Tables.{listIn, freeIn, foundIn, ReadSays}
+use Rattle.calls.specs.Frame.{listsIn, startsIn, ReadListSays, ReadAllSays, CountsSays}
 use Rattle.demands.specs.Demand1.{Outside}
-use Rattle.demands.specs.Frame.{Demand1ReadList, Demand1ReadAll, Demand1Counts, Stands, AllStand, AllListsStand, AgreesWithReads, withMore, ReadAlike, Demand3Frame, PastTheRoomFrame}
+use Rattle.demands.specs.Frame.{Demand1ReadList, Demand1ReadAll, Demand1Counts, Stands, AllListsStand, AgreesWithReads}
+use Rattle.demands.specs.Frame.{withMore, ReadAlike, Demand3Frame, PastTheRoomFrame}
 use Rattle.demands.proofs.Runs.{run-stays}
 use Rattle.demands.proofs.Room.{same-sound, same-sym, tiles-same, blocks-same, free-same, lists-same}
 use Rattle.demands.proofs.Demand3.{accepted-opening, fresh, demand-3}
@@ -44,7 +44,8 @@ outside {p} {q} list e s = record {
 }
 
 pub demand-1-read-list : {p : List ℕ} {t : ℕ} {e₀ : List ℕ} {a : Copied} {e : List ℕ} → ReadListSays p t e₀ a e → Demand1ReadList e₀ a e
-demand-1-read-list (ReadListSays.damaged n e f) = record { number-is = inr (inl (number-of e)); refused = λ _. (count-of e, f); accepted = λ z. absurd (omega (arith, number-of e)) }
+demand-1-read-list (ReadListSays.damaged n e f) =
+    record { number-is = inr (inl (number-of e)); refused = λ _. (count-of e, f); accepted = λ z. absurd (omega (arith, number-of e)) }
 demand-1-read-list (ReadListSays.no-tile s h e f) =
     record { number-is = inr (inr (inl (number-of e))); refused = λ _. (count-of e, f); accepted = λ z. absurd (omega (arith, number-of e)) }
 demand-1-read-list (ReadListSays.too-short s h l e f) =
@@ -66,13 +67,19 @@ demand-1-read-all {p} (ReadAllSays.done s k l e f g) = record {
 pub demand-1-counts : {p : List ℕ} {a : PoolCounts} → CountsSays p a → Demand1Counts a
 demand-1-counts (CountsSays.damaged n e) = record {
   number-is = inr (inl (ap (λ (b : PoolCounts). b .number) e));
-  refused = λ _. (ap (λ (b : PoolCounts). b .tiles) e, ap (λ (b : PoolCounts). b .blocks) e, ap (λ (b : PoolCounts). b .free) e, ap (λ (b : PoolCounts). b .entries) e);
+  refused = λ _. (
+      ap (λ (b : PoolCounts). b .tiles) e,
+      ap (λ (b : PoolCounts). b .blocks) e,
+      ap (λ (b : PoolCounts). b .free) e,
+      ap (λ (b : PoolCounts). b .entries) e,
+    );
 }
 demand-1-counts (CountsSays.done s e) = let z = ap (λ (b : PoolCounts). b .number) e in record { number-is = inl z; refused = λ ne. absurd (ne z) }
 
 -- ---- one outcome only
 
-pub read-list-one-outcome : {p : List ℕ} {t : ℕ} {e₀ : List ℕ} {a b : Copied} {e f : List ℕ} → ReadListSays p t e₀ a e → ReadListSays p t e₀ b f → (a ≡ b) × (e ≡ f)
+pub read-list-one-outcome : {p : List ℕ} {t : ℕ} {e₀ : List ℕ} {a b : Copied} {e f : List ℕ} → ReadListSays p t e₀ a e → ReadListSays p t e₀ b f
+    → (a ≡ b) × (e ≡ f)
 read-list-one-outcome (ReadListSays.damaged n e f) (ReadListSays.damaged n′ e′ f′) = (cc, cc)
 read-list-one-outcome (ReadListSays.damaged n e f) (ReadListSays.no-tile s′ h′ e′ f′) = absurd (n s′)
 read-list-one-outcome (ReadListSays.damaged n e f) (ReadListSays.too-short s′ h′ l′ e′ f′) = absurd (n s′)
@@ -95,7 +102,8 @@ room-or-none : {a b c d : ℕ} → (a ≤ b) ⊎ (c < d) → b < a → d ≤ c �
 room-or-none (inl l) h k = omega arith
 room-or-none (inr l) h k = omega arith
 
-pub read-all-one-outcome : {p s₀ e₀ : List ℕ} {a b : Copied} {s e u f : List ℕ} → ReadAllSays p s₀ e₀ a s e → ReadAllSays p s₀ e₀ b u f → (a ≡ b) × (s ≡ u) × (e ≡ f)
+pub read-all-one-outcome : {p s₀ e₀ : List ℕ} {a b : Copied} {s e u f : List ℕ} → ReadAllSays p s₀ e₀ a s e → ReadAllSays p s₀ e₀ b u f
+    → (a ≡ b) × (s ≡ u) × (e ≡ f)
 read-all-one-outcome (ReadAllSays.damaged n e f g) (ReadAllSays.damaged n′ e′ f′ g′) = (cc, cc, cc)
 read-all-one-outcome (ReadAllSays.damaged n e f g) (ReadAllSays.too-short s′ l′ e′ f′ g′) = absurd (n s′)
 read-all-one-outcome (ReadAllSays.damaged n e f g) (ReadAllSays.done s′ k′ l′ e′ f′ g′) = absurd (n s′)
@@ -115,7 +123,8 @@ counts-one-outcome (CountsSays.done s e) (CountsSays.done s′ e′) = cc
 -- ---- where each list stands
 
 -- of an accepted call, the starts and the entries
-module _ (p s₀ e₀ s e : List ℕ) (k : tilesOf p < length s₀) (l : length (listsIn p) ≤ length e₀) (f : s ≡ written s₀ 0 (startsIn p)) (g : e ≡ written e₀ 0 (listsIn p)) where
+module _ (p s₀ e₀ s e : List ℕ) (k : tilesOf p < length s₀) (l : length (listsIn p) ≤ length e₀)
+    (f : s ≡ written s₀ 0 (startsIn p)) (g : e ≡ written e₀ 0 (listsIn p)) where
   start-is : (t : ℕ) → t ≤ tilesOf p → getD s t 0 ≡ length (listsOf (layoutOf p) (tilesOf p) p t)
   start-is t h =
       let long = starts-long (layoutOf p) (tilesOf p) p in

@@ -1,17 +1,16 @@
 -- A tile's list that is copied into a buffer, one stretch after the other; and all lists, one behind the other.
-use mathlib.Core.Path.{_≡_, refl, sym, ap, _∙_, subst}
-use mathlib.Core.List.{List, [], _++_}
+use mathlib.Core.Path.{_≡_, sym, ap, _∙_, subst}
+use mathlib.Core.List.{List, []}
 use Prim.Native.Nat.{ℕ, _+_, _-_, _≤_, _<_, min}
 use native.Mathlib.Omega.{arith}
-use lib.ListN.{length, getD, take, drop, length-append}
+use lib.ListN.{length, getD, take, drop}
 use lib.Seq.{length-take-le, take-add, take-all}
-use Rattle.pool.specs.Words.{Layout, start, tileWord, blockWord}
+use Rattle.pool.specs.Words.{Layout, tileWord, blockWord}
 use Rattle.pool.specs.Sound.{blocksOf}
 use Rattle.pool.specs.Lists.{listOf}
 use Rattle.pool.specs.Written.{written, Puts}
 use Rattle.pool.proofs.Putting.{puts-none, puts-then}
 use Rattle.lists.specs.Reach.{BlockIn, Among}
-use Rattle.lists.proofs.Reaches.{block-reach}
 use Rattle.frame.specs.declared.Stretch.{Stretch}
 use Rattle.frame.specs.Frame.{Stretches}
 use Rattle.frame.proofs.Following.{Following, follow-start, follow-part, follow-step, named-in}

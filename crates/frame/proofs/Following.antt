@@ -55,7 +55,8 @@ module _ {ids poison : ℕ} {word : ℕ → ℕ → ℕ} {N : ℕ} {list : List 
     pub follow-part : (part : List ℕ) → length part ≡ k → ((j : ℕ) → j < k → getD part j 0 ≡ word (link - 1) j) → part ≡ take k (drop done list)
     follow-part part size same = go (F .blocks) (F .named) (F .held) (F .enough)
       where
-        go : (bs : List ℕ) → link ≡ linkTo bs → Holds ids poison word bs (drop done list) → length list ≤ done + ids * length bs → part ≡ take k (drop done list)
+        go : (bs : List ℕ) → link ≡ linkTo bs → Holds ids poison word bs (drop done list) → length list ≤ done + ids * length bs
+            → part ≡ take k (drop done list)
         go [] e held n = absurd (omega arith)
         go (b ∷ bs) e held n =
             let eb : link - 1 ≡ b = omega arith in

@@ -98,7 +98,8 @@ module _ {L : Layout} {T : ℕ} {p starts₀ entries₀ : List ℕ} where
     frame-next i v ei ev h P = record { begun = started i v ei ev; listed = rw (lists-next L T p t) (puts-then (F .listed) P); upto = omega arith }
 
     -- after the last tile there is one start to write, where its list ends
-    pub frame-all : (i v : ℕ) → i ≡ T → v ≡ next → T ≤ t → (set starts i v ≡ written starts₀ 0 (startsOf L T p)) × (entries ≡ written entries₀ 0 (listsOf L T p T))
+    pub frame-all : (i v : ℕ) → i ≡ T → v ≡ next → T ≤ t
+        → (set starts i v ≡ written starts₀ 0 (startsOf L T p)) × (entries ≡ written entries₀ 0 (listsOf L T p T))
     frame-all i v ei ev h =
         let e : t ≡ T = omega (arith, F .upto) in
         let W = started i v (ei ∙ sym e) ev in

@@ -44,7 +44,8 @@ written-piece p at list k m n low high long =
     let front = take m list in
     let size : length front ≡ m = length-take-le m list (omega arith) in
     let piece = take n (drop m list) in
-    let sizes : length (take (k - m) (drop m list)) ≤ length piece = omega (arith, length-part m (k - m) list (omega arith), length-part m n list (omega arith)) in
+    let sizes : length (take (k - m) (drop m list)) ≤ length piece
+    = omega (arith, length-part m (k - m) list (omega arith), length-part m n list (omega arith)) in
     let split : take k list ≡ front ++ take (k - m) (drop m list) = (
     let e : k ≡ m + (k - m) = omega arith in
     ap (λ (i : ℕ). take i list) e ∙ take-add m (k - m) list) in

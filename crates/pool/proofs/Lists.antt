@@ -26,7 +26,8 @@ getD-table (suc n) f (suc k) d h = getD-table n (λ j. f (suc j)) k d (le-of-suc
 
 pub table-same : (n : ℕ) (f g : ℕ → ℕ) → ((k : ℕ) → k < n → f k ≡ g k) → table n f ≡ table n g
 table-same zero f g h = refl
-table-same (suc n) f g h = ap₂ (λ (x : ℕ) (xs : List ℕ). x ∷ xs) (h 0 (omega arith)) (table-same n (λ k. f (suc k)) (λ k. g (suc k)) (λ k l. h (suc k) (omega arith)))
+table-same (suc n) f g h =
+    ap₂ (λ (x : ℕ) (xs : List ℕ). x ∷ xs) (h 0 (omega arith)) (table-same n (λ k. f (suc k)) (λ k. g (suc k)) (λ k l. h (suc k) (omega arith)))
 
 -- ---- the places of a chain, gathered
 

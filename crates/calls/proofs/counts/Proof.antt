@@ -1,5 +1,5 @@
 -- `calls::counts` meets its contract.
-use mathlib.Core.Path.{_≡_, refl, ap, _∙_}
+use mathlib.Core.Path.{refl, ap, _∙_}
 use lib.ListN.{length}
 use denote.Ref.{now}
 use Rattle.pool.specs.Words.{layoutOf}

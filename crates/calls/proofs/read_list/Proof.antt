@@ -1,7 +1,5 @@
 -- `calls::read_list` meets its contract: each test tells a row of the table, or that its cause does not apply.
 use mathlib.Core.Path.{_≡_, refl, ap, _∙_}
-use mathlib.Core.List.{List}
-use Prim.Native.Nat.{ℕ}
 use native.Mathlib.Omega.{arith}
 use lib.ListN.{length}
 use denote.Ref.{now}
@@ -28,7 +26,8 @@ count-is : (e : tie.After-entries) → let a = e .before .before .before .before
 count-is e =
     let w = e .before in
     let k = known (w .before .before .before .before) in
-    e .entries .ensures .1 ∙ ap length (same-list k (w .before .before .before .before .before .before .before .before .before .before .args .tile .0) (w .wide .ensures))
+    let t = w .before .before .before .before .before .before .before .before .before .before .args .tile .0 in
+    e .entries .ensures .1 ∙ ap length (same-list k t (w .wide .ensures))
 
 audit-requires : tie.Need-audit-requires
 audit-requires c κs = search needs
@@ -70,13 +69,16 @@ returns-3 c =
     let e = c .before .before .before in
     let i = e .before .before in
     let k = known (i .before .before .before) in
-    too-short (k .0) (a-tile k (i .if1 .left)) (omega (arith, c .before .if2 .taken, c .before .before .wide2 .ensures, count-is e)) (c .not-copied3 .ensures) refl
+    too-short (k .0) (a-tile k (i .if1 .left))
+    (omega (arith, c .before .if2 .taken, c .before .before .wide2 .ensures, count-is e))
+    (c .not-copied3 .ensures) refl
 
 put-list-requires : tie.Need-put-list-requires
 put-list-requires c κs =
     let e = c .before .before .before in
     let w = e .before in
-    (among (known (w .before .before .before .before)) (w .wide .ensures) (w .before .if1 .left), omega (arith, c .before .if2 .left, c .before .before .wide2 .ensures, e .entries .ensures .1))
+    let k = known (w .before .before .before .before) in
+    (among k (w .wide .ensures) (w .before .if1 .left), omega (arith, c .before .if2 .left, c .before .before .wide2 .ensures, e .entries .ensures .1))
 
 same-length : tie.Need-same-length
 same-length c = puts-long (c .before .before .put-list .ensures)

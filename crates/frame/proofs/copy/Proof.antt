@@ -14,7 +14,8 @@ use Rattle.frame.proofs.copy.Statement.{statement}
 use Rattle.frame.proofs.copy.Tie as tie
 
 abbrev Inv-loop : tie.InvT-loop
-Inv-loop words from count list₀ at last done₀ list done = (list ≡ written list₀ at (take done (drop from words))) × (done ≤ count) × (length list ≡ length list₀)
+Inv-loop words from count list₀ at last done₀ list done =
+    (list ≡ written list₀ at (take done (drop from words))) × (done ≤ count) × (length list ≡ length list₀)
 
 abbrev μ-loop : tie.MeasureT-loop
 μ-loop words from count list₀ at last done₀ list done = count - done

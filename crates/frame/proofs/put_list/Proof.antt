@@ -41,7 +41,8 @@ copying l =
     l .loop .inv (s .args .tile .0) (s .pre .0) (l .before .first .ensures) (ends w)
 
 -- what is copied next lies in the pool; there is some of it, and no more than is left
-next-part : (c : tie.After-stretch-at Inv-loop μ-loop) → let l = c .before .before in let a = l .before .before .before .before .before .before .args in let r = c .stretch-at .result in
+next-part : (c : tie.After-stretch-at Inv-loop μ-loop) → let l = c .before .before in let r = c .stretch-at .result in
+    let a = l .before .before .before .before .before .before .args in
     (r .at + r .count ≤ length (now (a .pool))) × (0 < r .count) × (r .count ≤ (a .at + l .before .before .wide .result) - l .loop .next)
 next-part c =
     let l = c .before .before in

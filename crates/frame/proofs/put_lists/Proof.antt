@@ -1,14 +1,12 @@
 -- `put_lists`: tile after tile its start is written and its list put behind the others; the last start is where the last list ends.
-use mathlib.Core.Path.{_≡_, sym, ap, _∙_, subst}
-use Prim.Native.Nat.{ℕ, _+_, _-_, _^_, _≤_, _<_}
+use mathlib.Core.Path.{_∙_}
+use Prim.Native.Nat.{_+_, _-_, _^_, _≤_, _<_}
 use native.Mathlib.Omega.{arith}
 use denote.Ref.{now}
 use lib.ListN.{length, length-set}
 use Rattle.pool.specs.Editions.{layoutFor}
 use Rattle.pool.specs.Lists.{listOf}
-use Rattle.pool.specs.Written.{Puts}
 use Rattle.pool.proofs.Putting.{puts-long}
-use Rattle.frame.specs.Frame.{listsOf}
 use Rattle.frame.proofs.Lists.{Framing, frame-none, frame-next, frame-all, lists-longer, lists-grow, lists-fit, tile-among}
 use borrow.Author.Needs.{needs}
 use Rattle.frame.proofs.put_lists.Statement.{statement}
@@ -59,7 +57,9 @@ put-list-requires c κs =
     let t = l .loop .t in
     let G = tile-among (s .pre .0 .0) (s .pre .0 .1) (s .pre .0 .2) (i .loop-test .taken) in
     let room : l .loop .next + length (listOf L T p t) ≤ length (l .loop .entries) =
-    omega (arith, l .loop .inv .listed .next-is, lists-longer L T p t, lists-grow L T p (t + 1) T (omega (arith, i .loop-test .taken)), puts-long (l .loop .inv .listed), s .pre .1) in
+    (
+    let more = lists-grow L T p (t + 1) T (omega (arith, i .loop-test .taken)) in
+    omega (arith, l .loop .inv .listed .next-is, lists-longer L T p t, more, puts-long (l .loop .inv .listed), s .pre .1)) in
     rw (w .wide .ensures) (G, room)
 
 add-t : tie.Need-add-t Inv-loop μ-loop

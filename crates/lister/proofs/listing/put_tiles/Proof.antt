@@ -45,6 +45,7 @@ put-tile-requires c κs =
     let h = s .pre .1 .0 in
     let t = l .loop .t in
     let lt : t < tilesOf p = omega (arith, h .tiles) in
+    let grow = tileLines-grow p t (tilesOf p) lt in
     let list = list-is p (s .args .header) h (w .wide .result) t (w .wide .ensures) in (
       record {
         sound = subst (λ (L : Layout). Sound L p) (sym (h .layout)) (s .pre .0);
@@ -54,7 +55,7 @@ put-tile-requires c κs =
       },
       (
         omega (arith, ap length list, list≤ p (s .pre .0) t lt, s .pre .1 .1 .0),
-        omega (arith, ap (λ (x : List ℕ). length (tileLine t x)) list, tileLines-grow p t (tilesOf p) lt, l .loop .inv .0 .next-is, puts-long (l .loop .inv .0), s .pre .1 .1 .1),
+        omega (arith, ap (λ (x : List ℕ). length (tileLine t x)) list, grow, l .loop .inv .0 .next-is, puts-long (l .loop .inv .0), s .pre .1 .1 .1),
       ),
     )
 

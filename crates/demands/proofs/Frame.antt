@@ -68,11 +68,11 @@ pub demand-1-counts : {p : List ℕ} {a : PoolCounts} → CountsSays p a → Dem
 demand-1-counts (CountsSays.damaged n e) = record {
   number-is = inr (inl (ap (λ (b : PoolCounts). b .number) e));
   refused = λ _. (
-      ap (λ (b : PoolCounts). b .tiles) e,
-      ap (λ (b : PoolCounts). b .blocks) e,
-      ap (λ (b : PoolCounts). b .free) e,
-      ap (λ (b : PoolCounts). b .entries) e,
-    );
+    ap (λ (b : PoolCounts). b .tiles) e,
+    ap (λ (b : PoolCounts). b .blocks) e,
+    ap (λ (b : PoolCounts). b .free) e,
+    ap (λ (b : PoolCounts). b .entries) e,
+  );
 }
 demand-1-counts (CountsSays.done s e) = let z = ap (λ (b : PoolCounts). b .number) e in record { number-is = inl z; refused = λ ne. absurd (ne z) }
 

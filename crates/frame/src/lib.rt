@@ -65,20 +65,21 @@ fn lesser(a: usize, b: usize) -> usize
     if a < b { a } else { b }
 }
 
-// `count` words, eight at a time. The last eight end with the last word, and may have words in common with those before, which are then written twice.
-fn copy(words: &[u32], from: usize, count: usize, list: &mut [u32], at: usize)
-    requires { ⌜ (from + count ≤ length (now words)) × (at + count ≤ length (now list)) ⌝ }
-    ensures { λ r. ⌜ now (list .exit) ≡ written (now (list .entry)) at (take count (drop from (now (words .entry)))) ⌝ }
+// The first `count` words of a slice, eight at a time. The last eight end with the last word, and may have words in common with those before, which are then
+// written twice.
+fn copy(words: &[u32], count: usize, list: &mut [u32], at: usize)
+    requires { ⌜ (count ≤ length (now words)) × (at + count ≤ length (now list)) ⌝ }
+    ensures { λ r. ⌜ now (list .exit) ≡ written (now (list .entry)) at (take count (now (words .entry))) ⌝ }
 {
     if count < 8 {
-        copy_singly(words, from, count, list, at);
+        copy_singly(words, 0, count, list, at);
         return;
     }
     let last = count - 8;
     let mut done = 0;
     while done < count {
         let k = lesser(done, last);
-        copy_eight(words, from + k, list, at + k);
+        copy_eight(words, k, list, at + k);
         done = k + 8;
     }
 }
@@ -101,7 +102,8 @@ pub fn put_list(
     let mut next = at;
     while next < end {
         let stretch = stretch_at(pool, layout, tiles, link, end - next);
-        copy(pool, stretch.at, stretch.count, list, next);
+        let from = stretch.at;
+        copy(&pool[from..], stretch.count, list, next);
         link = stretch.link;
         next += stretch.count;
     }

@@ -4,8 +4,7 @@ use mathlib.Core.List.{List}
 use Prim.Native.Nat.{ℕ, _+_, _-_, _≤_, _<_}
 use native.Mathlib.Omega.{arith}
 use denote.Ref.{now}
-use lib.ListN.{length, take, drop, length-drop}
-use lib.Seq.{drop-drop}
+use lib.ListN.{length, take, drop}
 use Rattle.pool.specs.Written.{written}
 use Rattle.pool.proofs.Written.{length-written, written-none}
 use Rattle.frame.proofs.Pieces.{written-piece}
@@ -14,11 +13,11 @@ use Rattle.frame.proofs.copy.Statement.{statement}
 use Rattle.frame.proofs.copy.Tie as tie
 
 abbrev Inv-loop : tie.InvT-loop
-Inv-loop words from count list₀ at last done₀ list done =
-    (list ≡ written list₀ at (take done (drop from words))) × (done ≤ count) × (length list ≡ length list₀)
+Inv-loop words count list₀ at last done₀ list done =
+    (list ≡ written list₀ at (take done words)) × (done ≤ count) × (length list ≡ length list₀)
 
 abbrev μ-loop : tie.MeasureT-loop
-μ-loop words from count list₀ at last done₀ list done = count - done
+μ-loop words count list₀ at last done₀ list done = count - done
 
 -- where the next eight words begin
 place : (c : tie.After-lesser Inv-loop μ-loop) → let l = c .before .before in let k = c .lesser .result in
@@ -43,10 +42,7 @@ lesser-requires : tie.Need-lesser-requires Inv-loop μ-loop
 lesser-requires c κs = search needs
 
 add-copy-eight : tie.Need-add-copy-eight Inv-loop μ-loop
-add-copy-eight c = omega (arith, place c, c .before .before .before .before .before .before .pre)
-
-add-copy-eight-2 : tie.Need-add-copy-eight-2 Inv-loop μ-loop
-add-copy-eight-2 c = omega (arith, place (c .before), c .before .before .before .before .before .before .before .pre)
+add-copy-eight c = omega (arith, place (c .before), c .before .before .before .before .before .before .before .pre)
 
 copy-eight-requires : tie.Need-copy-eight-requires Inv-loop μ-loop
 copy-eight-requires c κs =
@@ -69,13 +65,10 @@ loop-again c =
     let s = l .before .before .before .before in
     let a = s .args in
     let k = v .lesser .result in
-    let rest = drop (a .from) (now (a .words)) in
-    let put : List ℕ → List ℕ → List ℕ = λ q w. written q (a .at + k) (take 8 w) in
+    let words = now (a .words) in
     let here = place v in
-    let e = u .copy-eight .ensures ∙ ap (λ (q : List ℕ). put q (drop (a .from + k) (now (a .words)))) (l .loop .inv .0)
-    ∙ ap (put (written (now (a .list)) (a .at) (take (l .loop .done) rest))) (sym (drop-drop k (a .from) (now (a .words))))
-    ∙ written-piece (now (a .list)) (a .at) rest (l .loop .done) k 8 (here .0) (omega (arith, here .1))
-    (omega (arith, here .2, s .pre .0, length-drop (a .from) (now (a .words)))) in
+    let e = u .copy-eight .ensures ∙ ap (λ (q : List ℕ). written q (a .at + k) (take 8 (drop k words))) (l .loop .inv .0)
+    ∙ written-piece (now (a .list)) (a .at) words (l .loop .done) k 8 (here .0) (omega (arith, here .1)) (omega (arith, here .2, s .pre .0)) in
     (e, here .2, ap length e ∙ length-written _ _ _)
 
 same-length-2 : tie.Need-same-length-2 Inv-loop μ-loop
@@ -99,7 +92,6 @@ copy-spec =
     loop-holds
     lesser-requires
     add-copy-eight
-    add-copy-eight-2
     copy-eight-requires
     add-done
     loop-less

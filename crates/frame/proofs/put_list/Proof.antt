@@ -1,12 +1,15 @@
 -- `put_list`: stretch after stretch of the list is copied behind the other, and with none left all of it is.
 use mathlib.Core.Path.{_≡_, ap, _∙_}
+use mathlib.Core.List.{List}
 use Prim.Native.Nat.{ℕ, _+_, _-_, _^_, _≤_, _<_}
 use native.Mathlib.Omega.{arith}
 use denote.Ref.{now}
-use lib.ListN.{length}
+use lib.ListN.{length, take, drop, length-drop}
+use lib.Seq.{take-all}
 use Rattle.pool.specs.Words.{tileWord}
 use Rattle.pool.specs.Editions.{layoutFor}
 use Rattle.pool.specs.Lists.{listOf}
+use Rattle.pool.specs.Written.{written}
 use Rattle.pool.proofs.Putting.{puts-long}
 use Rattle.lists.specs.Reach.{Among}
 use Rattle.frame.proofs.Copying.{Copying, copy-start, copy-block, copy-part, copy-step, copy-end}
@@ -74,30 +77,46 @@ stretch-at-requires c κs =
     let w = l .before .before in
     copy-block (w .before .before .before .before .pre .0) (copying l) (omega (arith, ends w, c .loop-test .taken))
 
+mul-copy : tie.Need-mul-copy Inv-loop μ-loop
+mul-copy c = omega (arith, next-part c)
+
+sub-copy : tie.Need-sub-copy Inv-loop μ-loop
+sub-copy c = omega (arith, next-part c)
+
+part-copy-start : tie.Need-part-copy-start Inv-loop μ-loop
+part-copy-start c = omega (arith, next-part c)
+
+part-copy-end : tie.Need-part-copy-end Inv-loop μ-loop
+part-copy-end c = omega (arith, next-part c)
+
 copy-requires : tie.Need-copy-requires Inv-loop μ-loop
 copy-requires c κs =
-    let l = c .before .before .before in
+    let v = c .before .before in
+    let l = v .before .before in
     let w = l .before .before in
-    let n = next-part (c .before) in
-    (n .0, omega (arith, n .2, ends w, puts-long (copying l .put), w .before .before .before .before .pre .1))
+    let n = next-part v in
+    (omega (arith, n .0), omega (arith, n .2, ends w, puts-long (copying l .put), w .before .before .before .before .pre .1))
 
 add-next : tie.Need-add-next Inv-loop μ-loop
 add-next c =
-    let v = c .before .before .before .before .before in
+    let v = c .before .before .before .before .before .before in
     let l = v .before .before in
     let w = l .before .before in
     let s = w .before .before .before .before in
     omega (arith, next-part v, v .before .loop-test .taken, ends w, s .pre .1, list-fits (w .before .before))
 
 loop-less : tie.Need-loop-less Inv-loop μ-loop
-loop-less c = omega (arith, next-part (c .before .before .before .before .before))
+loop-less c = omega (arith, next-part (c .before .before .before .before .before .before))
 
 loop-again : tie.Need-loop-again Inv-loop μ-loop
 loop-again c =
-    let v = c .before .before .before .before .before in
+    let v = c .before .before .before .before .before .before in
     let l = v .before .before in
-    λ t G e h. copy-step G (l .loop .inv t G e h) (omega (arith, h, v .before .loop-test .taken)) (ap (λ (n : ℕ). n - l .loop .next) h) (v .stretch-at .ensures)
-    (c .before .before .before .copy .ensures)
+    let r = v .stretch-at .result in
+    let p = now (l .before .before .before .before .before .before .args .pool) in
+    let rest = take-all (length p - r .at) (drop (r .at) p) (omega (arith, length-drop (r .at) p)) in
+    let put = c .before .before .before .copy .ensures ∙ ap (λ (w : List ℕ). written (l .loop .list) (l .loop .next) (take (r .count) w)) rest in
+    λ t G e h. copy-step G (l .loop .inv t G e h) (omega (arith, h, v .before .loop-test .taken)) (ap (λ (n : ℕ). n - l .loop .next) h) (v .stretch-at .ensures) put
 
 same-length : tie.Need-same-length Inv-loop μ-loop
 same-length c = puts-long (copying (c .before) .put)
@@ -121,6 +140,10 @@ put-list-spec =
     loop-holds
     sub-stretch-at
     stretch-at-requires
+    mul-copy
+    sub-copy
+    part-copy-start
+    part-copy-end
     copy-requires
     add-next
     loop-less

@@ -84,6 +84,18 @@ fn copy(words: &[u32], count: usize, list: &mut [u32], at: usize)
     }
 }
 
+// The same. The count of a full block of 32 words is a constant, so that the loop is unrolled.
+fn copy_stretch(words: &[u32], count: usize, list: &mut [u32], at: usize)
+    requires { ⌜ (count ≤ length (now words)) × (at + count ≤ length (now list)) ⌝ }
+    ensures { λ r. ⌜ now (list .exit) ≡ written (now (list .entry)) at (take count (now (words .entry))) ⌝ }
+{
+    if count == 31 {
+        copy(words, 31, list, at);
+    } else {
+        copy(words, count, list, at);
+    }
+}
+
 // Puts the list of a tile at a place of `list`, and answers the place after it. Its chain is followed once.
 pub fn put_list(
     pool: &[u32],
@@ -103,7 +115,7 @@ pub fn put_list(
     while next < end {
         let stretch = stretch_at(pool, layout, tiles, link, end - next);
         let from = stretch.at;
-        copy(&pool[from..], stretch.count, list, next);
+        copy_stretch(&pool[from..], stretch.count, list, next);
         link = stretch.link;
         next += stretch.count;
     }

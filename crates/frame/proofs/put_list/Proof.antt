@@ -77,20 +77,20 @@ stretch-at-requires c κs =
     let w = l .before .before in
     copy-block (w .before .before .before .before .pre .0) (copying l) (omega (arith, ends w, c .loop-test .taken))
 
-mul-copy : tie.Need-mul-copy Inv-loop μ-loop
-mul-copy c = omega (arith, next-part c)
+mul-copy-stretch : tie.Need-mul-copy-stretch Inv-loop μ-loop
+mul-copy-stretch c = omega (arith, next-part c)
 
-sub-copy : tie.Need-sub-copy Inv-loop μ-loop
-sub-copy c = omega (arith, next-part c)
+sub-copy-stretch : tie.Need-sub-copy-stretch Inv-loop μ-loop
+sub-copy-stretch c = omega (arith, next-part c)
 
-part-copy-start : tie.Need-part-copy-start Inv-loop μ-loop
-part-copy-start c = omega (arith, next-part c)
+part-copy-stretch-start : tie.Need-part-copy-stretch-start Inv-loop μ-loop
+part-copy-stretch-start c = omega (arith, next-part c)
 
-part-copy-end : tie.Need-part-copy-end Inv-loop μ-loop
-part-copy-end c = omega (arith, next-part c)
+part-copy-stretch-end : tie.Need-part-copy-stretch-end Inv-loop μ-loop
+part-copy-stretch-end c = omega (arith, next-part c)
 
-copy-requires : tie.Need-copy-requires Inv-loop μ-loop
-copy-requires c κs =
+copy-stretch-requires : tie.Need-copy-stretch-requires Inv-loop μ-loop
+copy-stretch-requires c κs =
     let v = c .before .before in
     let l = v .before .before in
     let w = l .before .before in
@@ -115,7 +115,7 @@ loop-again c =
     let r = v .stretch-at .result in
     let p = now (l .before .before .before .before .before .before .args .pool) in
     let rest = take-all (length p - r .at) (drop (r .at) p) (omega (arith, length-drop (r .at) p)) in
-    let put = c .before .before .before .copy .ensures ∙ ap (λ (w : List ℕ). written (l .loop .list) (l .loop .next) (take (r .count) w)) rest in
+    let put = c .before .before .before .copy-stretch .ensures ∙ ap (λ (w : List ℕ). written (l .loop .list) (l .loop .next) (take (r .count) w)) rest in
     λ t G e h. copy-step G (l .loop .inv t G e h) (omega (arith, h, v .before .loop-test .taken)) (ap (λ (n : ℕ). n - l .loop .next) h) (v .stretch-at .ensures) put
 
 same-length : tie.Need-same-length Inv-loop μ-loop
@@ -140,11 +140,11 @@ put-list-spec =
     loop-holds
     sub-stretch-at
     stretch-at-requires
-    mul-copy
-    sub-copy
-    part-copy-start
-    part-copy-end
-    copy-requires
+    mul-copy-stretch
+    sub-copy-stretch
+    part-copy-stretch-start
+    part-copy-stretch-end
+    copy-stretch-requires
     add-next
     loop-less
     loop-again

@@ -1,7 +1,7 @@
 #!/usr/bin/env bash
-# The tests of target/host/libflourscoop.a, which host/build.sh makes: every call from C and from C++, the model by itself,
-# the archive against the model, and the planner on its lists. The last line is 'N passed, M failed'; the exit status is 0
-# only where M is 0.
+# The tests of target/host/libflourscoop.a, which host/build.sh makes: every call and the frame of c/frame.c from C and from
+# C++, what the archive needs from outside, the model by itself, the archive against the model, and the planner on its lists. The
+# last line is 'N passed, M failed'; the exit status is 0 only where M is 0.
 set -u
 cd "$(dirname "${BASH_SOURCE[0]}")" || exit 2
 . ./steps.sh
@@ -15,19 +15,43 @@ need cargo cargo-web || exit 1
 strict="-Wall -Wextra -Wconversion -Wsign-conversion -pedantic -Werror"
 passed=0 failed=0
 
-# Compiles c/calls.c by the compiler $1 with the words after it, runs it, and counts it as one test.
-calls_from() {
+# Compiles c/$1.c by the compiler $2 with the words after it.
+compiled() {
+    local name=$1
+    shift
     # shellcheck disable=SC2086
-    if "$@" $strict -Iinclude -c c/calls.c -o "$made/calls.o" && "$1" "$made/calls.o" -L"$made" -lflourscoop -o "$made/calls" && "$made/calls"; then
+    "$@" $strict -Iinclude -c "c/$name.c" -o "$made/$name.o" && "$1" "$made/$name.o" -L"$made" -lflourscoop -o "$made/$name"
+}
+
+# Compiles c/calls.c likewise, and runs it.
+calls_from() { compiled calls "$@" && "$made/calls"; }
+
+# Compiles c/frame.c likewise, runs it, and compares what it writes with c/frame.expected.
+frame_from() { compiled frame "$@" && "$made/frame" >"$made/frame.out" && diff c/frame.expected "$made/frame.out"; }
+
+# What the archive needs from outside is what the header says.
+needs_as_said() {
+    local needed
+    needed=$(nm -u "$made/libflourscoop.a" | awk 'NF == 2 { print $2 }' | sort -u | tr '\n' ' ')
+    echo "needed from outside: $needed"
+    [ "$needed" = "memset " ] && grep -q 'of the C library it needs memset\.$' include/flourscoop.h
+}
+
+# Counts a command as one test.
+count() {
+    if "$@"; then
         passed=$((passed + 1))
     else
         failed=$((failed + 1))
     fi
 }
 
-say "every call from C and from C++"
-calls_from cc -std=c99
-calls_from c++ -std=c++11 -x c++
+say "every call and a frame from C and from C++"
+for from in calls_from frame_from; do
+    count $from cc -std=c99
+    count $from c++ -std=c++11 -x c++
+done
+count needs_as_said
 
 say "the archive against the model, and the planner; one to two minutes, and half a minute to compile the first time"
 log=$made/cargo-test.log

@@ -1,6 +1,6 @@
 /* Every call by include/flourscoop.h, from C or C++: document 01's pool case, one answer and one refusal of each, marks, and
-   the blocks that they ask for, tiles wholly covered, walks with their tests, and draw calls, all in both editions; tiles
-   that the screen cuts; maps; lists of shapes; the header's rooms, texts and version. */
+   the blocks that they ask for, tiles wholly covered, walks with their tests, draw calls, and lists and frames read at once,
+   all in both editions; tiles that the screen cuts; maps; lists of shapes; the header's rooms, texts and version. */
 #include <float.h>
 #include <math.h>
 #include <stdio.h>
@@ -59,6 +59,16 @@ static const uint32_t drawn_lists[8][5] = {{7, 9, 12, FLOURSCOOP_WHOLE + 13}, {9
                                            {0}, {0}};
 static uint32_t draw_pool[DRAW_ROOM], single_pool[DRAW_ROOM];
 static size_t draw_room;
+
+/* The frame of that pool: where each list starts, and the entries of all. */
+enum { TILES = FLOURSCOOP_ACROSS(WIDTH, S) * FLOURSCOOP_ACROSS(HEIGHT, S), DRAWN_ENTRIES = 11 };
+static const uint32_t drawn_starts[TILES + 1] = {0, 4, 7, 7, 7, 9, 11, 11, 11};
+static const uint32_t drawn_entries[DRAWN_ENTRIES] = {7, 9, 12, FLOURSCOOP_WHOLE + 13, 9, 12, 13, 9, 13, 9, 13};
+
+/* The words lent to read lists into, with words on either side that are not lent; and what they should be afterwards. */
+enum { MOST_STARTS = TILES + 1 + SPARE, MOST_ENTRIES = 2048 * 63, BETWEEN = 3 };
+static uint32_t starts_lent[BETWEEN + MOST_STARTS + BETWEEN], starts_right[BETWEEN + MOST_STARTS + BETWEEN];
+static uint32_t entries_lent[BETWEEN + MOST_ENTRIES + BETWEEN], entries_right[BETWEEN + MOST_ENTRIES + BETWEEN];
 
 /* Points of tile 0, one more than a list may have. */
 static int32_t points[(FLOURSCOOP_MOST_SHAPES + 1) * FLOURSCOOP_BIN_WORDS];
@@ -187,6 +197,61 @@ static void expect_mark(const uint32_t *words, size_t length, uint32_t tile, uin
     expect("high_water", flourscoop_high_water(words, length, tile, &value), wanted, mark, 0);
 }
 
+/* Fills words that are lent, and those that they should be afterwards: with these words in the first that are lent. */
+static void fill(uint32_t *lent, uint32_t *right, size_t words, uint32_t filling, const uint32_t *read, size_t count)
+{
+    for (size_t at = 0; at < words + 2 * BETWEEN; at++)
+        lent[at] = right[at] = filling + (uint32_t)at;
+    if (count > 0)
+        memcpy(right + BETWEEN, read, count * sizeof *right);
+}
+
+/* What stands in the words before they are lent, and rises from there: small numbers, poison, and the last numbers. */
+static const uint32_t fillings[] = {0, 0xDEADBEEF, 0xFFFFFF00};
+enum { FILLINGS = sizeof fillings / sizeof *fillings };
+
+/* Reads a tile's list into so many words, and counts its number, how many entries it tells and the entries, these or none;
+   all other words should stay. */
+static void expect_list(const char *name, const uint32_t *words, size_t length, uint32_t tile, size_t list_room,
+                        uint32_t wanted, const uint32_t *list, uint32_t count)
+{
+    for (size_t at = 0; at < FILLINGS; at++) {
+        fill(entries_lent, entries_right, list_room, fillings[at], list, count);
+        value = 0xAAAAAAAA;
+        expect(name,
+               flourscoop_read_list(words, length, tile, list_room == 0 ? NULL : entries_lent + BETWEEN, list_room, &value),
+               wanted, count, 0);
+        expect_that(memcmp(entries_lent, entries_right, (list_room + 2 * BETWEEN) * sizeof *entries_lent) == 0, name);
+    }
+}
+
+/* Reads all lists into so many words for the starts and for the entries, likewise: these, or none. */
+static void expect_frame(const char *name, const uint32_t *words, size_t length, size_t starts_room, size_t entries_room,
+                         uint32_t wanted, const uint32_t *starts, const uint32_t *entries, uint32_t count)
+{
+    for (size_t at = 0; at < FILLINGS; at++) {
+        fill(starts_lent, starts_right, starts_room, fillings[at], starts, starts == NULL ? 0 : TILES + 1);
+        fill(entries_lent, entries_right, entries_room, fillings[at], entries, count);
+        value = 0xAAAAAAAA;
+        expect(name,
+               flourscoop_read_all(words, length, starts_room == 0 ? NULL : starts_lent + BETWEEN, starts_room,
+                                   entries_room == 0 ? NULL : entries_lent + BETWEEN, entries_room, &value),
+               wanted, count, 0);
+        expect_that(memcmp(starts_lent, starts_right, (starts_room + 2 * BETWEEN) * sizeof *starts_lent) == 0, name);
+        expect_that(memcmp(entries_lent, entries_right, (entries_room + 2 * BETWEEN) * sizeof *entries_lent) == 0, name);
+    }
+}
+
+/* Counts what a pool has; zeros are written where it is refused. */
+static void expect_counts(const char *name, const uint32_t *words, size_t length, uint32_t wanted, uint32_t tiles,
+                          uint32_t blocks, uint32_t free_blocks, uint32_t entries)
+{
+    uint32_t told[4] = {0xAAAAAAAA, 0xAAAAAAAA, 0xAAAAAAAA, 0xAAAAAAAA};
+    const uint32_t number = flourscoop_counts(words, length, &told[0], &told[1], &told[2], &told[3]);
+    expect_that(number == wanted && told[0] == tiles && told[1] == blocks && told[2] == free_blocks && told[3] == entries,
+                name);
+}
+
 /* Each call on these words answers 4 and changes none. */
 static void expect_unsound(uint32_t *words, size_t length, const char *what)
 {
@@ -199,6 +264,11 @@ static void expect_unsound(uint32_t *words, size_t length, const char *what)
     expect("bin", flourscoop_bin_pixels_point(words, length, 1, 0, 0, &value, &other, &made), FLOURSCOOP_UNSOUND, 0, 0);
     expect_answers("bin_list", words, length, drawn, DRAWN_WORDS, DRAWN, FLOURSCOOP_UNSOUND, NULL);
     expect_read("read", words, length, 0, 0, FLOURSCOOP_UNSOUND, 0, 0);
+    expect_list("read_list", words, length, 0, 9, FLOURSCOOP_UNSOUND, NULL, 0);
+    expect_list("read_list of no tile in no words", words, length, TILES, 0, FLOURSCOOP_UNSOUND, NULL, 0);
+    expect_frame("read_all", words, length, TILES + 1, 9, FLOURSCOOP_UNSOUND, NULL, NULL, 0);
+    expect_frame("read_all in no words", words, length, 0, 0, FLOURSCOOP_UNSOUND, NULL, NULL, 0);
+    expect_counts("counts", words, length, FLOURSCOOP_UNSOUND, 0, 0, 0, 0);
     expect_mark(words, length, 0, FLOURSCOOP_UNSOUND, 0);
     expect("release", flourscoop_release(words, length, 0, &value), FLOURSCOOP_UNSOUND, 0, 0);
     expect_that(memcmp(words, before, length * sizeof *words) == 0, what);
@@ -240,12 +310,28 @@ static void expect_other_layouts_refused(void)
     expect_changed_refused(9, 1);
 }
 
+/* Reads the pool case at once, in which tile 0 has id 7 or, as all other tiles, no entry. */
+static void read_pool_case(uint32_t entries)
+{
+    static const uint32_t starts[2][TILES + 1] = {{0}, {0, 1, 1, 1, 1, 1, 1, 1, 1}};
+    static const uint32_t id = 7;
+    expect_counts("counts", pool, room, FLOURSCOOP_DONE, TILES, BLOCKS, BLOCKS - entries, entries);
+    for (size_t spare = 0; spare <= SPARE; spare++) {
+        expect_list("tile 0", pool, room, 0, entries + spare, FLOURSCOOP_DONE, &id, entries);
+        expect_list("tile 7", pool, room, 7, spare, FLOURSCOOP_DONE, NULL, 0);
+        expect_list("no tile", pool, room, TILES, spare, FLOURSCOOP_NO_TILE, NULL, 0);
+        expect_frame("all", pool, room, TILES + 1, entries + spare, FLOURSCOOP_DONE, starts[entries], &id, entries);
+    }
+    expect_kept("the words after the reads");
+}
+
 /* The pool case, word by word. */
 static void pool_case(void)
 {
     expect("open", open_pool(pool, room, WIDTH, HEIGHT, S, BLOCKS), FLOURSCOOP_DONE, 0, 0);
     keep_opened();
     expect_kept("the words after the opening");
+    read_pool_case(0);
     expect_other_layouts_refused();
     expect("audit", flourscoop_audit(pool, room), FLOURSCOOP_DONE, 0, 0);
 
@@ -254,6 +340,7 @@ static void pool_case(void)
     expect_kept("the words after the bin");
     expect_other_layouts_refused();
     expect_read("read", pool, room, 0, 0, FLOURSCOOP_DONE, 7, 0);
+    read_pool_case(1);
     expect_mark(pool, room, 0, FLOURSCOOP_DONE, 1);
     unwritten();
     expect("bin (256,256)", flourscoop_bin_point(pool, room, 9, 256, 256, &value, &other, &made), FLOURSCOOP_NO_ROOM, 0, 0);
@@ -263,6 +350,7 @@ static void pool_case(void)
     keep_opened();
     kept[layout->header + 3] = 1; /* the mark of tile 0 */
     expect_kept("the words after the release");
+    read_pool_case(0);
 }
 
 /* Marks of the pool case after its release, and of words that are no sound pool. */
@@ -461,7 +549,7 @@ static void expect_wrong_draw(size_t place, int32_t word)
 static void refused_draw_calls(void)
 {
     for (size_t bytes = 0; bytes < DRAWN; bytes++) {
-        expect_no_answers("too few bytes", draw_pool, draw_room, drawn, DRAWN_WORDS, bytes, FLOURSCOOP_BYTES);
+        expect_no_answers("too few bytes", draw_pool, draw_room, drawn, DRAWN_WORDS, bytes, FLOURSCOOP_BUFFER);
         expect_no_answers("no pool", NULL, 0, drawn, DRAWN_WORDS, bytes, FLOURSCOOP_UNSOUND);
     }
     for (size_t words = 1; words < DRAWN_WORDS; words++)
@@ -501,6 +589,40 @@ static void draw_calls(void)
     expect_that(memcmp(draw_pool, single_pool, draw_room * sizeof *draw_pool) == 0, "the words stay");
 }
 
+/* The frame of the draw call: the lists and all of them in words of every number, and what is refused. */
+static void frames(void)
+{
+    expect_counts("counts", draw_pool, draw_room, FLOURSCOOP_DONE, TILES, DRAWN_BLOCKS, 0, DRAWN_ENTRIES);
+    for (uint32_t tile = 0; tile < TILES; tile++) {
+        const uint32_t count = drawn_starts[tile + 1] - drawn_starts[tile];
+        for (size_t list_room = 0; list_room <= DRAWN_ENTRIES; list_room++)
+            if (list_room < count)
+                expect_list("too few words", draw_pool, draw_room, tile, list_room, FLOURSCOOP_BUFFER, NULL, 0);
+            else
+                expect_list("a list", draw_pool, draw_room, tile, list_room, FLOURSCOOP_DONE,
+                            drawn_entries + drawn_starts[tile], count);
+        expect_list("no pool", NULL, 0, tile, count, FLOURSCOOP_UNSOUND, NULL, 0);
+        expect_list("no pool and no words", NULL, 0, tile, 0, FLOURSCOOP_UNSOUND, NULL, 0);
+    }
+    for (size_t starts_room = 0; starts_room <= MOST_STARTS; starts_room++)
+        for (size_t entries_room = 0; entries_room <= DRAWN_ENTRIES + SPARE; entries_room++)
+            if (starts_room <= TILES || entries_room < DRAWN_ENTRIES)
+                expect_frame("too few words", draw_pool, draw_room, starts_room, entries_room, FLOURSCOOP_BUFFER, NULL, NULL,
+                             0);
+            else
+                expect_frame("a frame", draw_pool, draw_room, starts_room, entries_room, FLOURSCOOP_DONE, drawn_starts,
+                             drawn_entries, DRAWN_ENTRIES);
+    expect_list("no tile and no words", draw_pool, draw_room, TILES, 0, FLOURSCOOP_NO_TILE, NULL, 0);
+    expect_list("no tile", draw_pool, draw_room, UINT32_MAX, 9, FLOURSCOOP_NO_TILE, NULL, 0);
+    expect_frame("no pool", NULL, 0, TILES + 1, DRAWN_ENTRIES, FLOURSCOOP_UNSOUND, NULL, NULL, 0);
+    expect_frame("no pool and no words", NULL, 0, 0, 0, FLOURSCOOP_UNSOUND, NULL, NULL, 0);
+    expect_counts("no pool", NULL, 0, FLOURSCOOP_UNSOUND, 0, 0, 0, 0);
+    expect_list("a pool without its last word", draw_pool, draw_room - 1, TILES, 0, FLOURSCOOP_UNSOUND, NULL, 0);
+    expect_frame("a pool without its last word", draw_pool, draw_room - 1, 0, 0, FLOURSCOOP_UNSOUND, NULL, NULL, 0);
+    expect_counts("a pool without its last word", draw_pool, draw_room - 1, FLOURSCOOP_UNSOUND, 0, 0, 0, 0);
+    expect_that(memcmp(draw_pool, single_pool, draw_room * sizeof *draw_pool) == 0, "the words stay");
+}
+
 /* Lays out the points, so many words each. */
 static void make_points(size_t words)
 {
@@ -522,7 +644,7 @@ static void longest_draw_call(void)
     expect("1,048,577 shapes", flourscoop_bin_list(pool, length, points, more, answers, sizeof answers), FLOURSCOOP_LIST, 0,
            0);
     expect("1,048,575 bytes", flourscoop_bin_list(pool, length, points, most, answers, FLOURSCOOP_MOST_SHAPES - 1),
-           FLOURSCOOP_BYTES, 0, 0);
+           FLOURSCOOP_BUFFER, 0, 0);
     for (size_t place = 0; place < sizeof answers; place++)
         done += answers[place] != 0xAA;
     expect_that(done == 0, "no answer is written by a refusal");
@@ -534,6 +656,28 @@ static void longest_draw_call(void)
         no_room++;
     expect_that(done == 62 && no_room == FLOURSCOOP_MOST_SHAPES - 62, "62 shapes are done, and the rest have no room");
     expect_that(answers[FLOURSCOOP_MOST_SHAPES] == 0xAA, "the byte past the shapes stays");
+}
+
+/* The longest list that there is, 2,048 blocks of 63 entries in one tile; and the same an entry shorter. */
+static void longest_list(void)
+{
+    static uint32_t words[FLOURSCOOP_ROOM_TWO(8, 8, 3, 2048, 64)];
+    static uint8_t answers[MOST_ENTRIES];
+    static uint32_t list[MOST_ENTRIES];
+    const size_t length = sizeof words / sizeof *words;
+    make_points(FLOURSCOOP_BIN_WORDS);
+    for (uint32_t id = 0; id < MOST_ENTRIES; id++) {
+        list[id] = id;
+        points[id * FLOURSCOOP_BIN_WORDS + FLOURSCOOP_SHAPE_WORDS] = (int32_t)id;
+    }
+    for (uint32_t count = MOST_ENTRIES - 1; count <= MOST_ENTRIES; count++) {
+        expect("open", flourscoop_open_two(words, length, 8, 8, 3, 2048, 64), FLOURSCOOP_DONE, 0, 0);
+        expect("bin_list", flourscoop_bin_list(words, length, points, count * FLOURSCOOP_BIN_WORDS, answers, count),
+               FLOURSCOOP_DONE, 0, 0);
+        expect_counts("counts", words, length, FLOURSCOOP_DONE, 1, 2048, 0, count);
+        expect_list("the longest list", words, length, 0, MOST_ENTRIES, FLOURSCOOP_DONE, list, count);
+        expect_list("a word too few", words, length, 0, count - 1, FLOURSCOOP_BUFFER, NULL, 0);
+    }
 }
 
 /* Units of document 01's table, and where the range and the floats end. */
@@ -715,7 +859,7 @@ static void expect_no_map(const char *name, uint32_t s, const int32_t *shape, si
 static void refused_maps(const int32_t *shape)
 {
     for (size_t bytes = 0; bytes < MAP_BYTES; bytes++) {
-        expect_no_map("too few bytes", S, shape, bytes, FLOURSCOOP_BYTES);
+        expect_no_map("too few bytes", S, shape, bytes, FLOURSCOOP_BUFFER);
         expect_no_map("no screen and too few bytes", 7, shape, bytes, FLOURSCOOP_SCREEN);
     }
     expect_no_map("no screen", 2, shape, MAP_BYTES, FLOURSCOOP_SCREEN);
@@ -766,7 +910,7 @@ static void maps(void)
     expect_map("past 60 by 28", 60, 28, S, past_60, MAP_BYTES, 9, FLOURSCOOP_DONE, none, MAP_BYTES);
     expect_map("4,096 tiles", 4096, 4096, 6, over_all, 4096, 9, FLOURSCOOP_DONE, ones, 4096);
     expect_map("512 by 8 tiles", 4096, 64, 3, over_all, 4096, 9, FLOURSCOOP_DONE, ones, 4096);
-    expect_map("4,095 bytes", 4096, 4096, 6, over_all, 4095, 9, FLOURSCOOP_BYTES, NULL, 0);
+    expect_map("4,095 bytes", 4096, 4096, 6, over_all, 4095, 9, FLOURSCOOP_BUFFER, NULL, 0);
     expect_map("too many tiles", 4096, 65, 3, over_all, 4096, 9, FLOURSCOOP_SCREEN, NULL, 0);
     expect_map("a row of 512", 4096, 8, 3, along_the_top, 512, 9, FLOURSCOOP_DONE, ones, 512);
     expect_map("a column of 512", 8, 4096, 3, over_all, 512, 9, FLOURSCOOP_DONE, ones, 512);
@@ -914,8 +1058,10 @@ int main(void)
         covered();
         walks();
         draw_calls();
+        frames();
     }
     longest_draw_call();
+    longest_list();
     units();
     questions();
     covers();

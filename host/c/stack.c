@@ -32,9 +32,10 @@ static const int32_t bins[] = {
     FLOURSCOOP_POINT, 256, 256, 0, 0, 0, 0, 3,
 };
 static uint8_t answers[3];
-static uint32_t counts[4];
+static uint32_t told[4];
 static uint64_t totals[3];
 static uint8_t map[4096];
+static uint32_t starts[4097], entries[BLOCKS * (BLOCK_WORDS - 1)];
 
 static void nothing(void) { number = FLOURSCOOP_DONE; }
 static void open_one(void) { number = flourscoop_open(one, WORDS_ONE, WIDTH, HEIGHT, S, BLOCKS); }
@@ -58,6 +59,16 @@ static void bin_list(void)
 }
 static void unit(void) { number = flourscoop_unit(-900.3f, &units); }
 static void read_entry(void) { number = flourscoop_read(pool, words, 0, 1, &value, &other); }
+static void read_list(void)
+{
+    number = flourscoop_read_list(pool, words, 0, entries, sizeof entries / sizeof *entries, &value);
+}
+static void read_all(void)
+{
+    number = flourscoop_read_all(pool, words, starts, sizeof starts / sizeof *starts, entries,
+                                 sizeof entries / sizeof *entries, &value);
+}
+static void counts(void) { number = flourscoop_counts(pool, words, &told[0], &told[1], &told[2], &told[3]); }
 static void high_water(void) { number = flourscoop_high_water(pool, words, 0, &value); }
 static void release(void) { number = flourscoop_release(pool, words, 0, &value); }
 static void box_point(void) { number = flourscoop_box_point(WIDTH, HEIGHT, S, 0, 9, 9, &value); }
@@ -90,8 +101,8 @@ static void map_triangle(void)
 }
 static void overlaps(void)
 {
-    number = flourscoop_overlaps(list, sizeof list / sizeof *list, WIDTH, HEIGHT, S, &counts[0], &counts[1], &totals[0],
-                                 &totals[1], &totals[2], &counts[2], &counts[3]);
+    number = flourscoop_overlaps(list, sizeof list / sizeof *list, WIDTH, HEIGHT, S, &told[0], &told[1], &totals[0],
+                                 &totals[1], &totals[2], &told[2], &told[3]);
 }
 
 /* How many bytes from the top of the stack a run of the call reaches. */
@@ -129,6 +140,9 @@ int main(void)
         {"bin_list", bin_list},
         {"unit", unit},
         {"read", read_entry},
+        {"read_list", read_list},
+        {"read_all", read_all},
+        {"counts", counts},
         {"high_water", high_water},
         {"release", release},
         {"box_point", box_point},

@@ -7,7 +7,7 @@
  *   - Any argument is safe as long as each pointer is: nothing is assumed of the numbers or of the words in the pool.
  *   - It returns one of the numbers below. 0 means done; any other is a refusal. A refusal changes no word of the pool.
  *   - What a pointer at the end of the arguments names is always written: the value on 0, zero on a refusal. The answers to
- *     a list and the bytes of a map are not one value: they are written on 0 alone.
+ *     a list, the bytes of a map and the entries and starts of a frame are not one value: they are written on 0 alone.
  *   - It always returns. It uses no heap, no global data and no operating system; of the C library it needs memset.
  *   - No call writes a word past the pool's room, and what stands there does not matter to any answer.
  *
@@ -17,21 +17,26 @@
  *   list          likewise with words or list_words, of int32_t; it is only read.
  *   answers       likewise with answer_bytes, of bytes, at any address.
  *   map           likewise with bytes, of bytes, at any address.
+ *   entries       of read_list and read_all: likewise with room or entries_room, of uint32_t.
+ *   starts        likewise with starts_room, of uint32_t.
  *   the others    each to one uint32_t, int32_t or uint64_t, aligned as that is, a uint64_t to 8 bytes. Not null, not in the
- *                 pool or the list, no two the same.
- *   Pool, list and answers of a call do not overlap.
+ *                 pool, the list, the entries or the starts, no two the same.
+ *   Pool, list, answers, entries and starts of a call do not overlap.
  *
  * THREADS AND INTERRUPTS
  *   Calls on different pools are independent and may run at the same time. Calls on one pool must not overlap; two calls
- *   of which each only audits, reads or asks for a mark may. Calls that take no pool may always run, those that write a map
- *   as long as nothing else reads or writes that map. Several calls may take one list of shapes, as long as nothing writes
- *   to that.
+ *   of which each only audits, reads, counts or asks for a mark may, each with entries and starts of its own. Calls that take
+ *   no pool may always run, those that write a map as long as nothing else reads or writes that map. Several calls may take
+ *   one list of shapes, as long as nothing writes to that.
  *
  * STACK, in bytes, as measured, on Arm in an emulator; of those of bin, bin_list and overlaps, 16,384 list the touched
  * tiles; that of map is for a grid of 512 columns or rows, and less for a smaller one
- *               bin     bin_list  overlaps  map    audit  read   high_water  release  corner  box  open, open_two  unit
- *     x86-64    18,928  18,832    17,104    5,856  2,320  2,368  2,352       2,400    480     192  144             16
- *     Arm       18,864  18,800    17,072    5,824  2,288  2,320  2,304       2,304    288     160  128             32
+ *               bin     bin_list  overlaps  map    audit  read   read_list  read_all  counts
+ *     x86-64    18,928  18,832    17,104    5,856  2,320  2,368  2,368      2,416     2,368
+ *     Arm       18,864  18,800    17,072    5,824  2,288  2,320  2,320      2,336     2,320
+ *               high_water  release  corner  box  open, open_two  unit
+ *     x86-64    2,352       2,400    480     192  144             16
+ *     Arm       2,304       2,304    288     160  128             32
  *
  * SCREEN AND UNITS
  *   A screen has a width and a height of 1 to 4,096 pixels. A tile is a square of 2^s by 2^s pixels, s from 3 to 6, cut
@@ -128,6 +133,29 @@
  *     word 106 to 169   63 times poison, 0
  *   In a tile that its shape covers wholly, the entry of id 7 is 16777223.
  *
+ * READING A FRAME
+ *   flourscoop_read gives one entry, and audits the pool for it. flourscoop_read_list writes all entries of one tile's list,
+ *   and flourscoop_read_all those of all lists, with one audit each. They write an entry as it stands in the pool: the id,
+ *   plus FLOURSCOOP_WHOLE where the shape covers the tile wholly.
+ *   By flourscoop_read_all the list of tile t stands in entries from starts[t] on and before starts[t + 1]: starts[0] is 0,
+ *   starts[tiles] is the number of all entries, and an empty tile starts where the next one does. So a frame needs tiles + 1
+ *   words for the starts, and as many for the entries as all lists have; flourscoop_counts tells both. 4,097 and 129,024 do
+ *   for every pool: it has at most 4,096 tiles, and no more entries than (B-1)*blocks.
+ *     for (tile = 0; tile < tiles; tile++)
+ *         for (at = starts[tile]; at < starts[tile + 1]; at++)
+ *             draw(tile, entries[at] % FLOURSCOOP_WHOLE, entries[at] / FLOURSCOOP_WHOLE);
+ *
+ *   An example, the pool of 4 blocks after its draw call above:
+ *     frame counts     tiles 8, blocks 4, free 0, entries 11
+ *     frame starts     0 4 7 7 7 9 11 11 11
+ *     frame entries    7 9 12 16777229 9 12 13 9 13 9 13
+ *   and flourscoop_read_list writes for each tile, with the number that it returns:
+ *     list 0    0   7 9 12 16777229, count 4
+ *     list 1    0   9 12 13, count 3
+ *     list 2    0   none, count 0
+ *     list 5    0   9 13, count 2
+ *     list 8    9   none, count 0
+ *
  * TESTS
  *   A bin finds the tiles of a shape by tests, each of which says of one tile whether the shape touches it, and tells how
  *   many it made. Where all vertices are on the screen, with x from 0 to 16*width and y from 0 to 16*height, they are those
@@ -195,9 +223,9 @@ extern "C" {
 
 /* The version of this header, and of the archive that goes with it. */
 #define FLOURSCOOP_VERSION_MAJOR 0
-#define FLOURSCOOP_VERSION_MINOR 9
+#define FLOURSCOOP_VERSION_MINOR 10
 #define FLOURSCOOP_VERSION_PATCH 0
-#define FLOURSCOOP_VERSION "0.9.0"
+#define FLOURSCOOP_VERSION "0.10.0"
 
 /* The numbers; their texts follow. Where several causes apply, each call's comment has the order of looking for them. */
 #define FLOURSCOOP_DONE 0u
@@ -211,8 +239,10 @@ extern "C" {
 #define FLOURSCOOP_NO_ROOM 8u
 #define FLOURSCOOP_NO_TILE 9u
 #define FLOURSCOOP_NO_PLACE 10u
-#define FLOURSCOOP_BYTES 11u
+#define FLOURSCOOP_BUFFER 11u
 #define FLOURSCOOP_LIST 15u
+/* What versions before 0.10.0 called 11, when it was for bytes alone. */
+#define FLOURSCOOP_BYTES FLOURSCOOP_BUFFER
 
 /* What a number means, in a text that is never to be freed. A number that no call returns has one too. */
 static inline const char *flourscoop_number_text(uint32_t number)
@@ -229,7 +259,7 @@ static inline const char *flourscoop_number_text(uint32_t number)
     case FLOURSCOOP_NO_ROOM: return "the shape needs more blocks than are free";
     case FLOURSCOOP_NO_TILE: return "there is no such tile";
     case FLOURSCOOP_NO_PLACE: return "the place is at or past the tile's number of entries";
-    case FLOURSCOOP_BYTES: return "there are fewer bytes than shapes in the list or tiles on the screen";
+    case FLOURSCOOP_BUFFER: return "a buffer that was lent to be written is too short";
     case FLOURSCOOP_LIST: return "the list is too long or not of whole shapes, or a kind or an unused word is wrong";
     default: return "no call returns this number";
     }
@@ -339,6 +369,32 @@ uint32_t flourscoop_unit(float v, int32_t *unit);
  * Returns 0; or 4, 9, 10, in this order.
  */
 uint32_t flourscoop_read(const uint32_t *pool, size_t words, uint32_t tile, uint32_t place, uint32_t *id, uint32_t *whole);
+
+/*
+ * Writes the entries of a tile's list, in its order, each as READING A FRAME has it, and how many they are. Words of entries
+ * past them stay as they are. An empty list is done, whatever the room.
+ * Returns 0; or 4, 9, 11, in this order, and then writes no word of entries. It is 11 where the list has more than room.
+ */
+uint32_t flourscoop_read_list(const uint32_t *pool, size_t words, uint32_t tile, uint32_t *entries, size_t room,
+                              uint32_t *count);
+
+/*
+ * Writes the entries of all lists, those of a tile behind those of the tiles before it, and where each list starts, as
+ * READING A FRAME has it; and how many entries they are. It audits the pool once. Words of starts past the first tiles + 1,
+ * and of entries past those of the lists, stay as they are.
+ * Returns 0; or 4, 11, in this order, and then writes no word of either. It is 11 where starts_room is below tiles + 1, or
+ * entries_room below the entries of all lists.
+ */
+uint32_t flourscoop_read_all(const uint32_t *pool, size_t words, uint32_t *starts, size_t starts_room, uint32_t *entries,
+                             size_t entries_room, uint32_t *count);
+
+/*
+ * Writes how many tiles and blocks the pool has, how many of the blocks are free, and how many entries all lists have
+ * together.
+ * Returns 0 or 4.
+ */
+uint32_t flourscoop_counts(const uint32_t *pool, size_t words, uint32_t *tiles, uint32_t *blocks, uint32_t *free,
+                           uint32_t *entries);
 
 /*
  * Writes the most entries that a tile's list had since the opening. A release does not lower it.

@@ -1,10 +1,11 @@
 //! Nanoseconds per call of the archive beside a plain Rust binner, in five runs; of draw calls and of the totals of a list, per
-//! shape; what a tile costs, in tests and in time, and what a map does; and by turns with another version's archive, where one is
-//! given. Screen 800 by 480, s = 4, 2,048 blocks; pools of edition one and, in the rows that say so, of edition two with 64 words to
-//! a block.
+//! shape; what a tile costs, in tests and in time, what a map does, and what it costs to read a frame; and by turns with another
+//! version's archive, where one is given. Screen 800 by 480, s = 4, 2,048 blocks; pools of edition one and, in the rows that say so,
+//! of edition two with 64 words to a block.
 
 mod clock;
 mod draws;
+mod frames;
 mod lists;
 mod maps;
 mod plain;
@@ -321,15 +322,18 @@ fn run() -> Vec<Row> {
 }
 
 fn main() {
-    let (runs, walks, maps): (Vec<_>, Vec<_>, Vec<_>) = (1..=RUNS)
-        .map(|count| {
-            eprintln!("run {count} of {RUNS}");
-            (run(), walks::run(), maps::run())
-        })
-        .collect();
+    let (mut runs, mut walks, mut maps, mut frames) = (Vec::new(), Vec::new(), Vec::new(), Vec::new());
+    for count in 1..=RUNS {
+        eprintln!("run {count} of {RUNS}");
+        runs.push(run());
+        walks.push(walks::run());
+        maps.push(maps::run());
+        frames.push(frames::run());
+    }
     table::print(&runs);
     table::print_walks(&walks);
     table::print_maps(&maps);
+    table::print_frames(&frames);
     #[cfg(other)]
     turns::print();
 }

@@ -154,8 +154,20 @@ impl Plain {
     }
 
     pub fn read(&self, tile: u32, place: u32) -> Option<Entry> {
-        let entry = self.lists.get(tile as usize)?.get(place as usize)?;
-        Some(Entry { id: entry % WHOLE, whole: *entry >= WHOLE })
+        let &entry = self.lists.get(tile as usize)?.get(place as usize)?;
+        Some(Entry::of(entry))
+    }
+
+    /// Copies all lists, one after the other, and writes where each starts and where the last one ends. A call, as the archive's is.
+    #[inline(never)]
+    pub fn read_all(&self, starts: &mut [u32], entries: &mut [u32]) {
+        let mut at = 0;
+        for (start, list) in starts.iter_mut().zip(&self.lists) {
+            *start = at as u32;
+            entries[at..at + list.len()].copy_from_slice(list);
+            at += list.len();
+        }
+        starts[self.lists.len()] = at as u32;
     }
 
     pub fn release(&mut self, tile: u32) {

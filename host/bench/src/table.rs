@@ -1,5 +1,6 @@
 //! The table of the measures: for each call the middle of its runs and, in brackets, the least and the most.
 
+use crate::frames::Framed;
 use crate::maps::Mapped;
 use crate::walks::Walked;
 
@@ -67,6 +68,13 @@ impl Spread {
 
     fn range(&self) -> String {
         self.ends().join(" to ")
+    }
+
+    /// The middle of ratios and, in brackets, their quartiles; with two decimals or, from a hundred on, none.
+    fn with_quartiles(&self) -> String {
+        let text = |ratio: f64| if ratio < 99.95 { format!("{ratio:.2}") } else { number(ratio) };
+        let [low, middle, high] = [1, 2, 3].map(|quarters| text(self.part(quarters)));
+        format!("{middle} ({low}–{high})")
     }
 
     fn best_and_middle(&self) -> String {
@@ -139,6 +147,22 @@ pub fn print_maps(runs: &[Vec<Mapped>]) {
     }
 }
 
+/// Prints what it costs to read a frame, of the rounds of all runs together, each run of the same frames in the same order: the
+/// best and the middle of the times of an audit, and the ratios of the other ways to the audit of the same round, the middle and
+/// the quartiles.
+pub fn print_frames(runs: &[Vec<Framed>]) {
+    println!();
+    println!("| frames | entries | audit, ns | read_all, to the audit | read_list of each tile | read of each entry, by some of them | counts | copy in plain Rust |");
+    println!("|---|---|---|---|---|---|---|---|");
+    for (at, Framed { kind, entries, .. }) in runs[0].iter().enumerate() {
+        let rounds = || runs.iter().flat_map(|run| &run[at].rounds);
+        let audit = Spread::of(rounds().map(|times| times[0])).best_and_middle();
+        let ratios =
+            [1, 2, 3, 4, 5].map(|way| Spread::of(rounds().map(|times| times[way] / times[0])).with_quartiles());
+        println!("| {kind} | {} | {audit} | {} |", number(*entries as f64), ratios.join(" | "));
+    }
+}
+
 #[cfg(other)]
 pub fn print_turns_head() {
     println!();
@@ -150,7 +174,6 @@ pub fn print_turns_head() {
 #[cfg(other)]
 pub fn print_turns(call: &str, rounds: &[[f64; 2]]) {
     let [other, archive] = [0, 1].map(|turn| number(Spread::of(rounds.iter().map(|times| times[turn])).middle()));
-    let ratio = Spread::of(rounds.iter().map(|[other, archive]| archive / other));
-    let [low, middle, high] = [1, 2, 3].map(|quarters| ratio.part(quarters));
-    println!("| {call} | {other} | {archive} | {middle:.2} ({low:.2}–{high:.2}) |");
+    let ratio = Spread::of(rounds.iter().map(|[other, archive]| archive / other)).with_quartiles();
+    println!("| {call} | {other} | {archive} | {ratio} |");
 }

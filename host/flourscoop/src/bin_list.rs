@@ -55,7 +55,7 @@ impl Pool<'_> {
     /// assert_eq!([pool.read(0, 0)?.id, pool.read(0, 1)?.id], [7, 13]);
     ///
     /// // three bytes for four shapes, and a list without its last word
-    /// assert_eq!(pool.bin_list(&list, &mut answers[..3]), Err(Refusal::Bytes));
+    /// assert_eq!(pool.bin_list(&list, &mut answers[..3]), Err(Refusal::Buffer));
     /// assert_eq!(pool.bin_list(&list[..31], &mut answers), Err(Refusal::List));
     /// # Ok::<(), Refusal>(())
     /// ```

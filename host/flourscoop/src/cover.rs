@@ -40,6 +40,22 @@ pub struct Entry {
     pub whole: bool,
 }
 
+impl Entry {
+    /// The entry that stands in a pool, or in a frame that was read, as this word.
+    pub fn of(word: u32) -> Entry {
+        Entry { id: word % WHOLE, whole: word / WHOLE % 2 == 1 }
+    }
+
+    /// The word that says the entry: its id, plus `WHOLE` where the shape covers the tile wholly.
+    pub fn word(self) -> u32 {
+        if self.whole {
+            self.id + WHOLE
+        } else {
+            self.id
+        }
+    }
+}
+
 impl From<[u32; 2]> for Entry {
     fn from([id, whole]: [u32; 2]) -> Entry {
         Entry { id, whole: whole == 1 }

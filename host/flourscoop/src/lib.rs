@@ -26,6 +26,7 @@
 
 mod bin_list;
 mod cover;
+mod frame;
 mod map;
 mod overlaps;
 pub mod raw;
@@ -33,6 +34,7 @@ mod refusal;
 
 pub use bin_list::{bin_list_of, refused, BIN_WORDS};
 pub use cover::{box_touches, corner_cover, Cover, Entry, WHOLE};
+pub use frame::{Counts, Entries, Frame, Tiles};
 pub use map::map;
 pub use overlaps::{list_of, overlaps, Overlaps, MOST_SHAPES, SHAPE_WORDS};
 pub use refusal::Refusal;
@@ -226,7 +228,8 @@ impl<'a> Pool<'a> {
         raw::bin_pixels(self.words, id, shape).done().map(Binned::from)
     }
 
-    /// The entry at a place of a tile's list, places counted from 0.
+    /// The entry at a place of a tile's list, places counted from 0. Each read audits the pool: `read_list` and `read_all` read
+    /// many entries with one audit.
     pub fn read(&self, tile: u32, place: u32) -> Result<Entry, Refusal> {
         raw::read(self.words, tile, place).done().map(Entry::from)
     }

@@ -27,7 +27,7 @@ use crate::{raw, Refusal, Screen, Shape, Vertex};
 /// assert_eq!(touched.collect::<Vec<u32>>(), [2, 3, 7]);
 ///
 /// // seven bytes for eight tiles
-/// assert_eq!(map(screen, Shape::Point(a), &mut bytes[..7]), Err(Refusal::Bytes));
+/// assert_eq!(map(screen, Shape::Point(a), &mut bytes[..7]), Err(Refusal::Buffer));
 /// # Ok::<(), Refusal>(())
 /// ```
 pub fn map(screen: Screen, shape: Shape<Vertex>, map: &mut [u8]) -> Result<(), Refusal> {

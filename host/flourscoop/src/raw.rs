@@ -10,6 +10,12 @@ extern "C" {
         block_words: u32) -> u32;
     fn flourscoop_audit(pool: *const u32, words: usize) -> u32;
     fn flourscoop_read(pool: *const u32, words: usize, tile: u32, place: u32, id: *mut u32, whole: *mut u32) -> u32;
+    fn flourscoop_read_list(pool: *const u32, words: usize, tile: u32, entries: *mut u32, room: usize,
+        count: *mut u32) -> u32;
+    fn flourscoop_read_all(pool: *const u32, words: usize, starts: *mut u32, starts_room: usize,
+        entries: *mut u32, entries_room: usize, count: *mut u32) -> u32;
+    fn flourscoop_counts(pool: *const u32, words: usize, tiles: *mut u32, blocks: *mut u32, free: *mut u32,
+        entries: *mut u32) -> u32;
     fn flourscoop_high_water(pool: *const u32, words: usize, tile: u32, entries: *mut u32) -> u32;
     fn flourscoop_release(pool: *mut u32, words: usize, tile: u32, blocks: *mut u32) -> u32;
 
@@ -134,6 +140,28 @@ pub fn bin_list(pool: &mut [u32], list: &[i32], answers: &mut [u8]) -> Answer<[u
 /// Reads the entry at a place of a tile's list. Values: the id; 1 where it has the flag, else 0. Numbers: 0, 4, 9, 10.
 pub fn read(pool: &[u32], tile: u32, place: u32) -> Answer<[u32; 2]> {
     answer(|[id, whole]| unsafe { flourscoop_read(pool.as_ptr(), pool.len(), tile, place, id, whole) })
+}
+
+/// Writes the entries of a tile's list. Value: how many they are. Numbers: 0, 4, 9, 11.
+pub fn read_list(pool: &[u32], tile: u32, entries: &mut [u32]) -> Answer<[u32; 1]> {
+    let room = entries.len();
+    answer(|[count]| unsafe {
+        flourscoop_read_list(pool.as_ptr(), pool.len(), tile, entries.as_mut_ptr(), room, count)
+    })
+}
+
+/// Writes the entries of all lists, and where each list starts. Value: how many entries they are. Numbers: 0, 4, 11.
+pub fn read_all(pool: &[u32], starts: &mut [u32], entries: &mut [u32]) -> Answer<[u32; 1]> {
+    let (words, starts_room, entries_room) = (pool.len(), starts.len(), entries.len());
+    let (pool, starts, entries) = (pool.as_ptr(), starts.as_mut_ptr(), entries.as_mut_ptr());
+    answer(|[count]| unsafe { flourscoop_read_all(pool, words, starts, starts_room, entries, entries_room, count) })
+}
+
+/// Counts what a pool has. Values: tiles, blocks, free blocks, entries of all lists. Numbers: 0, 4.
+pub fn counts(pool: &[u32]) -> Answer<[u32; 4]> {
+    answer(|[tiles, blocks, free, entries]| unsafe {
+        flourscoop_counts(pool.as_ptr(), pool.len(), tiles, blocks, free, entries)
+    })
 }
 
 /// The most entries that a tile's list had since the opening. Value: that number. Numbers: 0, 4, 9.

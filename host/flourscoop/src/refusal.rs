@@ -41,7 +41,7 @@ refusals! {
     NoRoom 8 "the shape needs more blocks than are free"
     NoTile 9 "there is no such tile"
     NoPlace 10 "the place is at or past the tile's number of entries"
-    Bytes 11 "there are fewer bytes than shapes in the list or tiles on the screen"
+    Buffer 11 "a buffer that was lent to be written is too short"
     List 15 "the list is too long or not of whole shapes, or a kind or an unused word is wrong"
 }
 

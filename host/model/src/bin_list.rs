@@ -13,7 +13,7 @@ impl State {
         }
         let bins = list.chunks(WORDS_OF_BIN);
         if bytes < bins.len() {
-            return Err(number::BYTES);
+            return Err(number::BUFFER);
         }
         Ok(bins.map(|words| self.bin_words(words) as u8).collect())
     }

@@ -5,10 +5,12 @@
 //! elimination, and so is whether a corner is a point of a shape; a unit is computed from the bits of the f32; a pool is a state with a vector for each list, from which
 //! all words are laid out anew; soundness is read off the words sentence by sentence; a total is a sum of products, over
 //! the different shapes of a list; a list with ids is binned one by one; the stepping walk asks about each of its tiles anew, and
-//! what a bin lists does not come from it; a map asks about each tile, and no square.
+//! what a bin lists does not come from it; a map asks about each tile, and no square; where a list starts in a frame is the sum of
+//! all lengths before it.
 
 mod bin_list;
 pub mod cover;
+pub mod frame;
 pub mod layout;
 pub mod listed;
 pub mod marked;
@@ -36,7 +38,7 @@ pub mod number {
     pub const NO_ROOM: u32 = 8;
     pub const NO_TILE: u32 = 9;
     pub const NO_PLACE: u32 = 10;
-    pub const BYTES: u32 = 11;
+    pub const BUFFER: u32 = 11;
     pub const LIST: u32 = 15;
 }
 

@@ -14,7 +14,7 @@ pub fn map(screen: Screen, shape: &[Vertex], bytes: usize) -> Result<Vec<u8>, u3
         return Err(number::OUT_OF_RANGE);
     }
     if bytes < screen.tiles() as usize {
-        return Err(number::BYTES);
+        return Err(number::BUFFER);
     }
     Ok((0..screen.tiles()).map(|tile| u8::from(touches(shape, screen.rectangle(tile)))).collect())
 }

@@ -1,6 +1,7 @@
-//! The model gives what document 01 and requests P1, P2, P4, P5, P6, P8 and P12 list.
+//! The model gives what document 01 and requests P1, P2, P4, P5, P6, P8 and P12 list, and the frames of that.
 
 use model::cover::{cover, Cover};
+use model::frame::{counts, read_all, read_list, Frame};
 use model::layout::{Layout, LAYOUTS};
 use model::listed::{Drawn, Listed, DRAWN, LISTED};
 use model::marked::{Cut, Marked, PoolCase, CUT, MARKED, POOL_CASES, SCREEN};
@@ -78,11 +79,14 @@ fn lists_with_ids() {
             let (opened, shapes) = (State::opened(layout, SCREEN, blocks), list.len() / WORDS_OF_BIN);
             let mut pool = opened.clone();
             if answers.is_ok() && shapes > 0 {
-                assert_eq!(pool.bin_list(list, shapes - 1), Err(number::BYTES), "{name}");
+                assert_eq!(pool.bin_list(list, shapes - 1), Err(number::BUFFER), "{name}");
             }
             assert_eq!(pool, opened, "{name}");
             assert_eq!(pool.bin_list(list, shapes), answers.map(<[u8]>::to_vec), "{name}");
             assert_eq!(pool.tiles.iter().map(|tile| &tile.entries[..]).collect::<Vec<_>>(), lists, "{name}");
+            let Frame { starts, entries } = pool.frame();
+            let list = |ends: &[u32]| &entries[ends[0] as usize..ends[1] as usize];
+            assert_eq!(starts.windows(2).map(list).collect::<Vec<_>>(), lists, "{name}");
         }
     }
 }
@@ -112,8 +116,19 @@ fn pool_cases() {
         assert_eq!(pool.bin(9, &[[256, 256]]), Err(number::NO_ROOM));
         assert_eq!(pool.words(), binned);
         assert_eq!(State::read(&binned), Ok(pool.clone()));
+        assert_eq!(counts(&binned), Ok([8, 2, 1, 1]));
+        let seven = Frame { starts: vec![0, 1, 1, 1, 1, 1, 1, 1, 1], entries: vec![7] };
+        let rooms = [(9, 1), (10, 2), (9, 0), (8, 1)];
+        let frames = rooms.map(|(starts_room, entries_room)| read_all(&binned, starts_room, entries_room));
+        assert_eq!(frames, [Ok(seven.clone()), Ok(seven), Err(number::BUFFER), Err(number::BUFFER)]);
+        let lists = [(0, 1), (0, 0), (1, 0), (8, 0)].map(|(tile, room)| read_list(&binned, tile, room));
+        assert_eq!(lists, [Ok(vec![7]), Err(number::BUFFER), Ok(Vec::new()), Err(number::NO_TILE)]);
+        let short = &binned[..words - 1];
+        assert_eq!((counts(short), read_list(short, 8, 0)), (Err(number::UNSOUND), Err(number::UNSOUND)));
+        assert_eq!(read_all(short, 0, 0), Err(number::UNSOUND));
 
         assert_eq!(pool.release(0), Ok(1));
+        assert_eq!(pool.counts(), [8, 2, 2, 0]);
         assert_eq!([0, 1, 8].map(|tile| pool.high_water(tile)), [Ok(1), Ok(0), Err(number::NO_TILE)]);
         opened[layout.mark_at(0)] = 1;
         assert_eq!(pool.words(), opened);

@@ -32,8 +32,8 @@ fn a_map_is_refused_in_order() {
         (no_screen, [[0, 0]], 8, Err(number::SCREEN)),
         (SCREEN, far, 7, Err(number::OUT_OF_RANGE)),
         (SCREEN, far, 8, Err(number::OUT_OF_RANGE)),
-        (SCREEN, [[0, 0]], 0, Err(number::BYTES)),
-        (SCREEN, [[0, 0]], 7, Err(number::BYTES)),
+        (SCREEN, [[0, 0]], 0, Err(number::BUFFER)),
+        (SCREEN, [[0, 0]], 7, Err(number::BUFFER)),
         (SCREEN, [[0, 0]], 8, Ok(vec![1, 0, 0, 0, 0, 0, 0, 0])),
         (SCREEN, [[0, 0]], 9, Ok(vec![1, 0, 0, 0, 0, 0, 0, 0])),
     ] {

@@ -14,11 +14,13 @@ use model::{number, Pixel, Vertex};
 use crate::answers::{no_room, Answers};
 use crate::draw::Draw;
 use crate::generate;
+use crate::lent::{said_entries, Lent};
 use crate::list::List;
 use crate::random::Random;
-use crate::smaller;
+use crate::smaller::{self, nearer_zero};
 
-/// A call on a pool.
+/// A call on a pool. What `spare` says is by how many the words lent for entries, or for starts and for entries, are more than
+/// the tile table asks for, or fewer.
 #[derive(Clone, PartialEq, Eq, Debug)]
 pub enum Call {
     Open { layout: Layout, screen: Screen, blocks: Blocks },
@@ -27,6 +29,9 @@ pub enum Call {
     BinPixels { id: u32, shape: Vec<Pixel> },
     BinList(Draw),
     Read { tile: u32, place: u32 },
+    ReadList { tile: u32, spare: i32 },
+    ReadAll { spare: [i32; 2] },
+    Counts,
     HighWater { tile: u32 },
     Release { tile: u32 },
 }
@@ -47,13 +52,13 @@ impl Blocks {
     }
 }
 
-/// The number that a call returns and the values that it writes, zeros for those that it has not. The answers to a list are
-/// not among them.
-pub type Outcome = [u32; 4];
+/// The number that a call returns and the values that it writes, zeros for those that it has not. The answers to a list and
+/// what lists are read into are not among them.
+pub type Outcome = [u32; 5];
 
 /// The outcome of a call that returns this number and writes no value but zeros.
 pub const fn alone(number: u32) -> Outcome {
-    [number, 0, 0, 0]
+    [number, 0, 0, 0, 0]
 }
 
 /// The outcome of a call that is done and writes these values.
@@ -66,7 +71,8 @@ impl Call {
     pub fn make(random: &Random, layout: Layout, screen: Screen) -> Call {
         let tile = generate::tile(random, screen);
         let other = random.pick(&[tile, tile, tile, tile, tile, tile, screen.tiles(), u32::MAX]);
-        match random.below(23) {
+        let spare = || random.pick(&[0, 0, 0, 0, 1, 9, -1, -1, i32::MIN]);
+        match random.below(27) {
             0..=7 => Call::Bin { id: generate::id(random), shape: shape(random, screen, tile) },
             8..=11 => {
                 let shape = shape(random, screen, tile);
@@ -80,6 +86,9 @@ impl Call {
             18 => Call::HighWater { tile: other },
             19 => Call::Audit,
             20 | 21 => Call::BinList(Draw::make(random, screen, 6)),
+            22 | 23 => Call::ReadList { tile: other, spare: spare() },
+            24 => Call::ReadAll { spare: [spare().max(-1), spare()] },
+            25 => Call::Counts,
             _ => {
                 let another = random.pick(&[random.pick(&LAYOUTS), generate::bad_layout(random)]);
                 let (screen, blocks) = random.pick(&[
@@ -96,17 +105,26 @@ impl Call {
     }
 
     /// One of each call that takes a pool, but for the opening.
-    pub fn each_on_a_pool() -> [Call; 7] {
+    pub fn each_on_a_pool() -> [Call; 10] {
         let list = List { shapes: vec![(2, [1, 1, 1, 0, 0, 0, 0, 8])], rest: Vec::new() };
+        let [read_list, read_all, counts] = Call::at_once(0);
         [
             Call::Audit,
             Call::BinList(Draw { list, spare: 1 }),
             Call::Bin { id: 8, shape: vec![[1, 1]] },
             Call::BinPixels { id: 8, shape: vec![[0, 0]] },
             Call::Read { tile: 0, place: 0 },
+            read_list,
+            read_all,
+            counts,
             Call::HighWater { tile: 0 },
             Call::Release { tile: 0 },
         ]
+    }
+
+    /// The calls that read many entries at once, or count them, with words to spare; one of them at a tile.
+    pub fn at_once(tile: u32) -> [Call; 3] {
+        [Call::ReadList { tile, spare: 9 }, Call::ReadAll { spare: [9, 9] }, Call::Counts]
     }
 
     /// Reads of the longest list: in its middle, at its last place and past it.
@@ -136,6 +154,35 @@ impl Call {
         }
     }
 
+    /// The outcome that goes with this one in a pool with the same lists and so many blocks more, or fewer: the counts alone tell
+    /// the blocks, and how many of them are free.
+    pub fn with_more_blocks(&self, outcome: Outcome, more: i32) -> Outcome {
+        match (self, outcome) {
+            (Call::Counts, [number::DONE, tiles, blocks, free, entries]) => {
+                [number::DONE, tiles, blocks.wrapping_add_signed(more), free.wrapping_add_signed(more), entries]
+            }
+            _ => outcome,
+        }
+    }
+
+    /// The words that the call is lent to read lists into, before it is made on these words.
+    fn lent(&self, words: &[u32]) -> Lent {
+        // neither entries nor starts
+        let filled = |starts, entries| Lent::filled(starts, entries, [0xF111_0000, 1]);
+        let with = |words: usize, spare: i32| words.saturating_add_signed(spare as isize);
+        match *self {
+            Call::ReadList { tile, spare } => {
+                let entries = said_entries(words).get(tile as usize).copied().unwrap_or(0);
+                filled(0, with(entries, spare))
+            }
+            Call::ReadAll { spare: [starts, entries] } => {
+                let said = said_entries(words);
+                filled(with(said.len() + 1, starts), with(said.iter().sum::<usize>().min(1 << 20), entries))
+            }
+            _ => filled(0, 0),
+        }
+    }
+
     /// The bytes that the call is lent for answers, before it is made.
     fn untouched(&self) -> Answers {
         match self {
@@ -159,11 +206,19 @@ impl Call {
                 let tiles = smaller::lower(tile).into_iter().map(|tile| Call::Read { tile, place });
                 tiles.chain(smaller::lower(place).into_iter().map(|place| Call::Read { tile, place })).collect()
             }
+            &Call::ReadList { tile, spare } => {
+                let tiles = smaller::lower(tile).into_iter().map(|tile| Call::ReadList { tile, spare });
+                tiles.chain(nearer_zero(spare).into_iter().map(|spare| Call::ReadList { tile, spare })).collect()
+            }
+            Call::ReadAll { spare } => {
+                let nearer = smaller::each(spare, |&spare| nearer_zero(spare)).into_iter();
+                nearer.map(|spare| Call::ReadAll { spare: [spare[0], spare[1]] }).collect()
+            }
             &Call::HighWater { tile } => {
                 smaller::lower(tile).into_iter().map(|tile| Call::HighWater { tile }).collect()
             }
             &Call::Release { tile } => smaller::lower(tile).into_iter().map(|tile| Call::Release { tile }).collect(),
-            Call::Open { .. } | Call::Audit => Vec::new(),
+            Call::Open { .. } | Call::Audit | Call::Counts => Vec::new(),
         }
     }
 }
@@ -265,6 +320,8 @@ pub struct Slot {
     pub state: Option<State>,
     /// the bytes that the last call was lent for answers
     pub answers: Answers,
+    /// the words that it was lent to read lists into
+    pub lent: Lent,
     blocks: u32,
     expected: Vec<u32>,
 }
@@ -272,14 +329,15 @@ pub struct Slot {
 impl Slot {
     /// A slot of these words, in which `Blocks::Own` means so many blocks.
     pub fn over(words: Vec<u32>, blocks: u32) -> Slot {
-        let answers = Answers::untouched(0);
-        Slot { state: State::read(&words).ok(), expected: words.clone(), blocks, answers, words }
+        let (answers, lent) = (Answers::untouched(0), Call::Audit.lent(&[]));
+        Slot { state: State::read(&words).ok(), expected: words.clone(), blocks, answers, lent, words }
     }
 
     /// Makes the call on the archive alone, and compares nothing.
     pub fn on_archive(&mut self, call: &Call) -> Outcome {
-        let words = &mut self.words[..];
         self.answers = call.untouched();
+        self.lent = call.lent(&self.words);
+        let (words, Lent { starts, entries }) = (&mut self.words[..], &mut self.lent);
         match call {
             &Call::Open { layout, screen, blocks } => outcome(open(words, layout, screen, blocks.count(self.blocks))),
             Call::Audit => outcome(raw::audit(words)),
@@ -287,12 +345,15 @@ impl Slot {
             Call::BinPixels { id, shape } => outcome(raw::bin_pixels(words, *id, pixels_of(shape))),
             Call::BinList(draw) => outcome(raw::bin_list(words, &draw.list.words(), self.answers.lent())),
             &Call::Read { tile, place } => outcome(raw::read(words, tile, place)),
+            &Call::ReadList { tile, .. } => outcome(raw::read_list(words, tile, entries.lent())),
+            Call::ReadAll { .. } => outcome(raw::read_all(words, starts.lent(), entries.lent())),
+            Call::Counts => outcome(raw::counts(words)),
             &Call::HighWater { tile } => outcome(raw::high_water(words, tile)),
             &Call::Release { tile } => outcome(raw::release(words, tile)),
         }
     }
 
-    fn on_model(&mut self, call: &Call, answers: &mut [u8]) -> Outcome {
+    fn on_model(&mut self, call: &Call, answers: &mut [u8], lent: &mut Lent) -> Outcome {
         if let &Call::Open { layout, screen, blocks } = call {
             let opened = State::open(self.words.len(), layout, screen, blocks.count(self.blocks));
             let answer = opened.map(|state| {
@@ -313,15 +374,25 @@ impl Slot {
                 []
             })),
             &Call::Read { tile, place } => expected(state.entry_at(tile, place)),
+            &Call::ReadList { tile, .. } => expected(state.read_list(tile, lent.entries.room()).map(|entries| {
+                lent.entries.write(&entries);
+                [entries.len() as u32]
+            })),
+            Call::ReadAll { .. } => expected(state.read_all(lent.starts.room(), lent.entries.room()).map(|frame| {
+                lent.write(&frame);
+                [frame.entries.len() as u32]
+            })),
+            Call::Counts => expected(Ok(state.counts())),
             &Call::HighWater { tile } => expected(state.high_water(tile).map(|mark| [mark])),
             &Call::Release { tile } => expected(state.release(tile).map(|blocks| [blocks])),
         }
     }
 
-    /// Makes the call on both sides and compares the outcome, every answer byte and every word.
+    /// Makes the call on both sides and compares the outcome, every answer byte, every word that it was lent to read into and
+    /// every word of the pool.
     pub fn call(&mut self, call: &Call) -> Result<Outcome, String> {
-        let mut answers = call.untouched();
-        let (archive, model) = (self.on_archive(call), self.on_model(call, answers.lent()));
+        let (mut answers, mut lent) = (call.untouched(), call.lent(&self.words));
+        let (archive, model) = (self.on_archive(call), self.on_model(call, answers.lent(), &mut lent));
         if let Some(state) = &self.state {
             let words = state.words();
             self.expected[..words.len()].copy_from_slice(&words);
@@ -329,7 +400,7 @@ impl Slot {
         if archive != model {
             return Err(format!("{call:?}: the archive gives {archive:?}, the model {model:?}"));
         }
-        if let Some(wrong) = self.answers.other_than(&answers) {
+        if let Some(wrong) = self.answers.other_than(&answers).or_else(|| self.lent.other_than(&lent)) {
             return Err(format!("{call:?}: {wrong}"));
         }
         let differs = (0..self.words.len()).find(|&at| self.words[at] != self.expected[at]);

@@ -336,6 +336,11 @@ pub fn state(random: &Random, layout: Layout) -> State {
         1..=40 => (screen(random, 3), random.below(200), 70),
         _ => (screen(random, 5), random.below(random.pick(&[3, 12, 40])), 3),
     };
+    state_on(random, layout, screen, blocks, long)
+}
+
+/// The state of a sound pool for this screen with so many blocks in any order, some of them in chains of up to so many.
+pub fn state_on(random: &Random, layout: Layout, screen: Screen, blocks: u32, long: u32) -> State {
     let mut free = blocks as usize;
     let mut entries_of_a_tile = || {
         let chain = random.pick(&[0, 0, 1, 1, 2, 1 + random.below(long)]) as usize;

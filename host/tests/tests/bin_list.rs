@@ -186,7 +186,7 @@ impl Reached {
                 self.largest += u64::from(case.state.tiles.len() == 4096);
                 self.covering += u64::from(seen.whole > 0);
             }
-            number::BYTES => self.too_few[usize::from(case.draw.bytes() == 0)] += 1,
+            number::BUFFER => self.too_few[usize::from(case.draw.bytes() == 0)] += 1,
             _ => (),
         }
         seen.answers.iter().for_each(|&answer| *self.answers.entry(answer).or_default() += 1);
@@ -213,7 +213,7 @@ fn draw_calls_are_as_single_bins() {
         assert!((0..=10).all(|tenths| reached.fills[&tenths][1] > 20), "and in pools of every fill");
         let often = |answer: &u8| reached.answers.get(answer).is_some_and(|&shapes| shapes > 2000);
         assert!([0, 5, 7, 8].iter().all(often) && reached.answers.len() == 4, "each answer should be given often");
-        assert!(reached.numbers[&number::LIST] > 1000 && reached.numbers[&number::BYTES] > 1000);
+        assert!(reached.numbers[&number::LIST] > 1000 && reached.numbers[&number::BUFFER] > 1000);
         let alone = |fault: Fault| reached.faults.get(&fault).is_some_and(|&lists| lists > 10);
         assert!((1..WORDS_OF_BIN).all(|words| alone(Fault::Part(words))), "each part of a shape should be there");
         assert!([0, 4, -1, i32::MIN, i32::MAX].map(Fault::Kind).into_iter().all(alone), "and each wrong kind");
@@ -298,7 +298,7 @@ fn a_draw_call_is_refused_with_4_then_15_then_11() {
                 match (meets, answers) {
                     ([false, _, _], _) => expect(&words, &draw, number::UNSOUND, &[]),
                     (_, None) => expect(&words, &draw, number::LIST, &[]),
-                    ([_, _, false], _) => expect(&words, &draw, number::BYTES, &[]),
+                    ([_, _, false], _) => expect(&words, &draw, number::BUFFER, &[]),
                     (_, Some(answers)) => expect(&words, &draw, number::DONE, &answers.map(|answer| (1, answer))),
                 };
             }
@@ -329,7 +329,7 @@ fn a_list_has_1048576_shapes_and_no_more() {
         let (words, full) = (two_blocks(layout), 2 * layout.ids_of_block());
         let most = draw(&[(MOST, POINT)], &[], 0);
         expect(&words, &most, number::DONE, &[(full, 0), (MOST - full, 8)]);
-        expect(&words, &Draw { spare: -1, ..most.clone() }, number::BYTES, &[]);
+        expect(&words, &Draw { spare: -1, ..most.clone() }, number::BUFFER, &[]);
         expect(&words, &draw(&[(MOST + 1, POINT)], &[], 1), number::LIST, &[]);
         expect(&words, &draw(&[(MOST + 1, BELOW_ZERO)], &[], i32::MIN), number::LIST, &[]);
         expect(&words[1..], &most, number::UNSOUND, &[]);

@@ -255,7 +255,7 @@ impl Case for Read {
         let state = slot.state.clone().ok_or("the pool is not sound")?;
         for (tile, held) in (0..).zip(&state.tiles) {
             for place in 0..=held.entries.len() as u32 {
-                let [number, id, whole, _] = slot.call(&Call::Read { tile, place })?;
+                let [number, id, whole, ..] = slot.call(&Call::Read { tile, place })?;
                 let by_wrapper = Pool::over(&mut slot.words).read(tile, place);
                 let entry = match number {
                     number::DONE => Ok(Entry { id, whole: whole == 1 }),

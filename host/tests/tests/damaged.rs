@@ -150,8 +150,11 @@ impl Case for Damaged {
             Ok(_) => "Sound".into(),
             Err(fault) => format!("{fault:?}"),
         };
-        let told = slot.call(&Call::Audit).and_then(|_| slot.call(&self.call));
-        told.map_err(|wrong| format!("{wrong}\nthe sentences on soundness say of the words: {verdict}"))?;
+        let on_all = Call::at_once(self.state.screen.tiles() - 1);
+        for call in [&Call::Audit].into_iter().chain(&on_all).chain([&self.call]) {
+            let told = slot.call(call);
+            told.map_err(|wrong| format!("{wrong}\nthe sentences on soundness say of the words: {verdict}"))?;
+        }
         Ok(verdict)
     }
 }

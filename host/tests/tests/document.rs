@@ -1,8 +1,9 @@
-//! What document 01 and requests P1, P2, P4, P5, P6, P8 and P12 list, by the wrapper; and request P9's maps of it.
+//! What document 01 and requests P1, P2, P4, P5, P6, P8 and P12 list, by the wrapper; request P9's maps of it; and its lists read
+//! at once.
 
 use flourscoop::{
-    bin_list_of, box_touches, corner_cover, list_of, map, overlaps, refused, room, room_two, unit, Binned, Cover,
-    Entry, Overlaps, Pixel, Pool, Refusal, Shape, Vertex, BIN_WORDS, WHOLE,
+    bin_list_of, box_touches, corner_cover, list_of, map, overlaps, refused, room, room_two, unit, Binned, Counts,
+    Cover, Entry, Overlaps, Pixel, Pool, Refusal, Shape, Vertex, BIN_WORDS, WHOLE,
 };
 use model::layout::{Layout, LAYOUTS};
 use model::listed::{Drawn, Listed, DRAWN, LISTED};
@@ -111,11 +112,29 @@ fn opened(layout: Layout, blocks: u32) -> Vec<u32> {
     words
 }
 
-/// The entry words of each tile of the screen of the marked cases, as they are read.
+/// The entry words of each tile of the screen of the marked cases, as they are read: entry by entry, list by list, and all at
+/// once.
 fn lists(pool: &Pool) -> Vec<Vec<u32>> {
-    let word = |Entry { id, whole }: Entry| if whole { id + WHOLE } else { id };
-    let list = |tile| (0..).map_while(|place| pool.read(tile, place).ok()).map(word).collect();
+    let (mut starts, mut entries) = (vec![0; 9], vec![0; pool.counts().unwrap().entries as usize]);
+    let frame = pool.read_all(&mut starts, &mut entries).unwrap();
+    let list = |tile| {
+        let list: Vec<u32> = (0..).map_while(|place| pool.read(tile, place).ok()).map(Entry::word).collect();
+        let mut entries = vec![0; list.len()];
+        assert_eq!(pool.read_list(tile, &mut entries).map(|entries| entries.words()), Ok(&list[..]));
+        assert_eq!(frame.tile(tile).map(|entries| entries.words()), Some(&list[..]));
+        list
+    };
     (0..SCREEN.tiles()).map(list).collect()
+}
+
+/// What the counts, all lists and the list of tile 0 of a pool for that screen are, read with words to spare: the starts, the
+/// entries, and those words.
+fn read_at_once(pool: &Pool) -> (Counts, [Vec<u32>; 2], Vec<u32>) {
+    let (mut starts, mut entries, mut alone) = (vec![0xAA; 11], vec![0xAA; 3], vec![0xAA; 3]);
+    let frame = pool.read_all(&mut starts, &mut entries).unwrap();
+    assert_eq!(frame.tiles(), 8);
+    pool.read_list(0, &mut alone).unwrap();
+    (pool.counts().unwrap(), [starts, entries], alone)
 }
 
 #[test]
@@ -192,6 +211,9 @@ fn pool_cases() {
         assert_eq!((room, &pool.words()[..header.len()]), (Ok(words), header));
         let opened = pool.words().to_vec();
         assert_eq!(pool.high_water(0), Ok(0));
+        let empty = [vec![0, 0, 0, 0, 0, 0, 0, 0, 0, 0xAA, 0xAA], vec![0xAA; 3]];
+        let counts = Counts { tiles: 8, blocks: 2, free: 2, entries: 0 };
+        assert_eq!(read_at_once(&pool), (counts, empty.clone(), vec![0xAA; 3]));
 
         assert_eq!(pool.bin(7, point(0, 0)), Ok(Binned { tiles: 1, blocks: 1, tests: 1 }));
         assert_eq!(pool.words()[4..6], [1, 2]);
@@ -203,6 +225,13 @@ fn pool_cases() {
         assert_eq!(pool.read(0, 1), Err(Refusal::NoPlace));
         assert_eq!(pool.read(8, 0), Err(Refusal::NoTile));
         assert_eq!([0, 1, 7, 8].map(|tile| pool.high_water(tile)), [Ok(1), Ok(0), Ok(0), Err(Refusal::NoTile)]);
+        let seven = [vec![0, 1, 1, 1, 1, 1, 1, 1, 1, 0xAA, 0xAA], vec![7, 0xAA, 0xAA]];
+        assert_eq!(read_at_once(&pool), (Counts { free: 1, entries: 1, ..counts }, seven.clone(), seven[1].clone()));
+        assert_eq!(pool.read_list(8, &mut []).err(), Some(Refusal::NoTile));
+        assert_eq!(pool.read_list(0, &mut []).err(), Some(Refusal::Buffer));
+        assert_eq!(pool.read_all(&mut [0; 9], &mut []).err(), Some(Refusal::Buffer));
+        assert_eq!(pool.read_all(&mut [0; 8], &mut [0]).err(), Some(Refusal::Buffer));
+        assert_eq!(pool.words(), binned);
 
         // every word is as opened, but for the mark of tile 0
         assert_eq!(pool.release(0), Ok(1));
@@ -211,6 +240,7 @@ fn pool_cases() {
         assert_eq!(pool.high_water(0), Ok(1));
         assert_eq!(pool.release(0), Ok(0));
         assert_eq!(pool.high_water(0), Ok(1));
+        assert_eq!(read_at_once(&pool), (counts, empty, vec![0xAA; 3]));
         assert!(pool.is_sound());
     }
 }
@@ -224,11 +254,19 @@ fn an_edition_two_pool_is_refused_while_word_6_is_8() {
         let mut read_with = |word_6| {
             words[6] = word_6;
             let mut pool = Pool::over(&mut words);
-            (pool.is_sound(), pool.read(0, 0), pool.high_water(0), pool.bin(8, point(1, 1)), pool.release(1))
+            let (mut starts, mut entries) = ([0; 9], [0; 1]);
+            let listed = pool.read_list(0, &mut entries).map(|entries| entries.len());
+            let framed = pool.read_all(&mut starts, &mut entries).map(|frame| frame.words().len());
+            let told =
+                (pool.read(0, 0), listed, framed, pool.counts().map(|counts| counts.entries), pool.high_water(0));
+            (pool.is_sound(), told, pool.bin(8, point(1, 1)), pool.release(1))
         };
-        let refused = |refusal| (false, Err(refusal), Err(refusal), Err(refusal), Err(refusal));
+        let refused = |refusal| {
+            (false, (Err(refusal), Err(refusal), Err(refusal), Err(refusal), Err(refusal)), Err(refusal), Err(refusal))
+        };
         assert_eq!(read_with(8), refused(Refusal::Unsound));
-        assert_eq!(read_with(10), (true, Ok(SEVEN), Ok(1), Ok(Binned { tiles: 1, blocks: 0, tests: 1 }), Ok(0)));
+        let told = (Ok(SEVEN), Ok(1), Ok(1), Ok(1), Ok(1));
+        assert_eq!(read_with(10), (true, told, Ok(Binned { tiles: 1, blocks: 0, tests: 1 }), Ok(0)));
     }
 }
 

@@ -2,10 +2,11 @@
 
 use flourscoop::{Refusal, Shape, Vertex};
 use model::cover::Cover;
+use model::frame::Frame;
 use model::layout::{Layout, LAYOUTS};
 use model::marked::SCREEN;
 use model::overlaps::{overlaps, Totals};
-use model::pool::{State, MOST_ENTRY, MOST_ID, POISON, WHOLE};
+use model::pool::{State, MOST_BLOCKS, MOST_ENTRY, MOST_ID, POISON, WHOLE};
 use model::quarters::map;
 use model::shapes::{vertices, MOST_SHAPES, WORDS_OF_BIN, WORDS_OF_SHAPE};
 use model::stepping::{walk, Walk};
@@ -45,6 +46,7 @@ fn numbers_and_texts_are_the_wrapper_s() {
         }
     }
     assert_eq!([0, 12, 14, 16, u32::MAX].map(Refusal::of), [None; 5]);
+    assert_eq!(defined("FLOURSCOOP_BYTES"), "FLOURSCOOP_BUFFER");
 }
 
 #[test]
@@ -135,7 +137,7 @@ fn the_declarations_are_the_wrapper_s() {
     let mut wrapper: Vec<String> = declarations(WRAPPER, "    fn ").into_iter().map(one_line).collect();
     header.sort();
     wrapper.sort();
-    assert_eq!(header.len(), 24);
+    assert_eq!(header.len(), 27);
     assert_eq!(header, wrapper);
 }
 
@@ -222,6 +224,55 @@ fn the_answers_of_the_example_are_the_model_s() {
     assert_eq!(answers, [0, 8, 0, 8, 5, 7, 0, 0]);
     let said = "tile 0 has the list 7, 9, 12, 13*,\n *   tile 1 has 9, 12, 13, and tiles 4 and 5 have 9, 13.\n";
     assert!(HEADER.contains(said));
+}
+
+/// The pool of the example after its draw call.
+fn drawn() -> State {
+    let (list, said) = listed_in_lines("shape");
+    let mut pool = State::opened(Layout::One, SCREEN, 4);
+    pool.bin_list(&list, said.len()).unwrap();
+    pool
+}
+
+/// Words as the header writes them.
+fn in_words(words: &[u32]) -> String {
+    words.iter().map(u32::to_string).collect::<Vec<_>>().join(" ")
+}
+
+#[test]
+fn the_frame_of_the_example_is_the_model_s() {
+    let pool = drawn();
+    let [tiles, blocks, free, entries] = pool.counts();
+    let Frame { starts, entries: listed } = pool.frame();
+    let frame = [
+        ("counts", format!("tiles {tiles}, blocks {blocks}, free {free}, entries {entries}")),
+        ("starts", in_words(&starts)),
+        ("entries", in_words(&listed)),
+    ];
+    let said = list_example("frame").filter_map(|line| line.split_once(' '));
+    assert_eq!(said.map(|(name, words)| (name, words.trim().to_string())).collect::<Vec<_>>(), frame);
+    assert_eq!(entries, 11);
+}
+
+#[test]
+fn the_lists_of_the_example_are_the_model_s() {
+    let pool = drawn();
+    let of_tile = |line: &str| {
+        let tile: u32 = line.split_once(' ').unwrap().0.parse().unwrap();
+        let (number, list) = pool.read_list(tile, 4).map_or_else(|number| (number, Vec::new()), |list| (0, list));
+        let words = if list.is_empty() { "none".into() } else { in_words(&list) };
+        format!("{tile}    {number}   {words}, count {}", list.len())
+    };
+    let said: Vec<&str> = list_example("list").collect();
+    assert_eq!(said.iter().map(|line| of_tile(line)).collect::<Vec<_>>(), said);
+    assert_eq!(said.len(), 5);
+}
+
+#[test]
+fn the_most_words_of_a_frame_are_the_model_s() {
+    let entries = LAYOUTS.map(|layout| layout.ids_of_block() as u32 * MOST_BLOCKS);
+    assert_eq!((entries, 4096 + 1), ([63_488, 63_488, 129_024], 4097));
+    assert!(HEADER.contains("4,097 and 129,024 do\n *   for every pool"));
 }
 
 /// What the header says of a walk.

@@ -1,5 +1,5 @@
 //! Every limit from both sides, on the archive and on the model, in each layout: 4,096 tiles, the end of the screen, 2,048
-//! blocks of 32 or 64 words, chains and marks up to the longest, and slices as long as the room and a word less.
+//! blocks of 32 or 64 words, chains, marks and lists read at once up to the longest, and slices as long as the room and a word less.
 
 use flourscoop::Refusal;
 use model::cover::Cover;
@@ -39,6 +39,23 @@ fn opened(layout: Layout, screen: Screen, blocks: u32) -> Slot {
     let mut slot = unopened(layout.room(screen, blocks));
     expect(&mut slot, open(layout, screen, blocks), alone(number::DONE));
     slot
+}
+
+/// Reads the list of a tile, which has so many entries, and all lists, with as many words as they take, with more and with fewer;
+/// and counts tiles, blocks, free blocks and entries.
+fn expect_at_once(slot: &mut Slot, tile: u32, list: u32, counts: [u32; 4]) {
+    let or_refused = |count: u32| if count == 0 { done([0]) } else { alone(number::BUFFER) };
+    let [.., entries] = counts;
+    for spare in [0, 1, 40] {
+        expect(slot, Call::ReadList { tile, spare }, done([list]));
+        expect(slot, Call::ReadAll { spare: [spare, spare] }, done([entries]));
+    }
+    for spare in [-1, i32::MIN] {
+        expect(slot, Call::ReadList { tile, spare }, or_refused(list));
+        expect(slot, Call::ReadAll { spare: [0, spare] }, or_refused(entries));
+        expect(slot, Call::ReadAll { spare: [spare, 40] }, alone(number::BUFFER));
+    }
+    expect(slot, Call::Counts, done(counts));
 }
 
 /// The bin of a point in the middle of a tile.
@@ -259,6 +276,10 @@ fn a_shape_takes_2048_blocks_and_no_more() {
             expect(&mut slot, Call::Read { tile, place: 0 }, alone(number::NO_PLACE));
         }
         expect(&mut slot, Call::Read { tile: 4096, place: 0 }, alone(number::NO_TILE));
+        for (tile, list) in [(0, 2), (2047, 2), (2048, 0), (4095, 0)] {
+            expect_at_once(&mut slot, tile, list, [4096, 2048, 0, 4096]);
+        }
+        expect(&mut slot, Call::ReadList { tile: 4096, spare: 9 }, alone(number::NO_TILE));
         expect(&mut slot, Call::Release { tile: 4096 }, alone(number::NO_TILE));
         expect(&mut slot, Call::Release { tile: 4095 }, done([0]));
         expect(&mut slot, Call::Release { tile: 2047 }, done([1]));
@@ -268,6 +289,19 @@ fn a_shape_takes_2048_blocks_and_no_more() {
         expect(&mut slot, Call::HighWater { tile: 4096 }, alone(number::NO_TILE));
         expect(&mut slot, bin_at(screen, 4095, 3), done([1, 1, 1]));
         expect(&mut slot, Call::Read { tile: 4095, place: 0 }, done([3, 0]));
+        expect_at_once(&mut slot, 4095, 1, [4096, 2048, 0, 4095]);
+    }
+}
+
+#[test]
+fn pools_without_an_entry_are_read() {
+    let full = FULL.map(|sizes| screen_with(sizes, [0, 0]));
+    for (layout, screen) in in_each_layout([ONE_TILE, screen_with([65, 63, 3], [7, 1])].into_iter().chain(full)) {
+        for blocks in [0, 1, MOST_BLOCKS] {
+            let (mut slot, tiles) = (opened(layout, screen, blocks), screen.tiles());
+            expect_at_once(&mut slot, tiles - 1, 0, [tiles, blocks, blocks, 0]);
+            expect(&mut slot, Call::ReadList { tile: tiles, spare: 0 }, alone(number::NO_TILE));
+        }
     }
 }
 
@@ -298,6 +332,8 @@ fn chains_of_1_to_70_blocks_are_read_at_both_ends_of_each_block() {
                 }
                 expect(&mut slot, Call::Read { tile, place: last + 1 }, alone(number::NO_PLACE));
                 expect(&mut slot, Call::HighWater { tile }, done([last + 1]));
+                let (list, free) = (last + 1, 2 * (CHAIN - (last / ids + 1)));
+                expect_at_once(&mut slot, tile, list, [2, 2 * CHAIN, free, 2 * list]);
             }
         }
         expect(&mut slot, bin_at(screen, 0, 0), alone(number::NO_ROOM));
@@ -345,8 +381,10 @@ fn the_longest_chain_has_2048_blocks() {
         expect(&mut slot, Call::Audit, alone(number::DONE));
         expect(&mut slot, Call::Read { tile: 0, place: full - 1 }, alone(number::NO_PLACE));
         expect(&mut slot, Call::HighWater { tile: 0 }, done([full - 1]));
+        expect_at_once(&mut slot, 0, full - 1, [1, MOST_BLOCKS, 0, full - 1]);
         expect(&mut slot, bin_at(ONE_TILE, 0, full - 1), done([1, 0, 0]));
         expect(&mut slot, Call::HighWater { tile: 0 }, done([full]));
+        expect_at_once(&mut slot, 0, full, [1, MOST_BLOCKS, 0, full]);
         // the ends of every fiftieth block, and of the last two
         let looked_at = |place: u32| place / ids % 50 == 0 || place / ids >= MOST_BLOCKS - 2;
         for place in (0..full).filter(|&place| ends_a_block(ids, place) && looked_at(place)) {

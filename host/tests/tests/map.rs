@@ -158,7 +158,7 @@ fn maps_are_the_model_s_and_the_tiles_of_a_bin() {
     for (number, maps) in [(number::DONE, 300_000), (number::SCREEN, 20_000), (number::OUT_OF_RANGE, 20_000)] {
         assert!(numbers[&number] > maps, "{number} should be returned often");
     }
-    assert!(numbers[&number::BYTES] > 20_000 && numbers.len() == 4, "11 too, and no other");
+    assert!(numbers[&number::BUFFER] > 20_000 && numbers.len() == 4, "11 too, and no other");
     // a screen outside the rules has no tiles for which bytes could be enough
     assert_eq!(causes.len(), 5);
     assert!(causes.values().all(|&maps| maps > 2000), "each cause alone, and with those after it");
@@ -360,7 +360,7 @@ fn a_map_has_as_many_bytes_as_tiles_or_more() {
     let lengths =
         by_length.chain(large.flat_map(|screen| [i32::MIN, -2, -1, 0, 1, 2, 999].map(|spare| (screen, spare))));
     for (screen, spare) in lengths {
-        let number = if spare < 0 { number::BYTES } else { number::DONE };
+        let number = if spare < 0 { number::BUFFER } else { number::DONE };
         for shape in [&COVERING[..], &[[5, 5], [9, 9]], &[[-1, -1]]] {
             for (before, filling) in
                 [[0, 0], [1, 0], [255, 0], [2, 0], [0x80, 0], [0xA5, 3], [0, 1], [254, 255]].into_iter().enumerate()
@@ -420,7 +420,7 @@ fn a_map_is_refused_in_order() {
                 let number = match (screen == good, far, spare < 0) {
                     (false, ..) => number::SCREEN,
                     (true, true, _) => number::OUT_OF_RANGE,
-                    (true, false, true) => number::BYTES,
+                    (true, false, true) => number::BUFFER,
                     (true, false, false) => number::DONE,
                 };
                 let case = Mapped { screen, shape: shape.clone(), spare, before: 3, filling: [0xA5, 1] };

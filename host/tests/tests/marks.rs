@@ -62,7 +62,8 @@ impl List {
             if other[0] == number::NO_ROOM || others.iter().any(|&answer| no_room(answer)) {
                 return Ok(false);
             }
-            if other != *outcome || others != *answers {
+            let outcome = call.with_more_blocks(*outcome, blocks as i32 - MOST_BLOCKS as i32);
+            if other != outcome || others != *answers {
                 return Err(format!(
                     "{call:?}: with {blocks} blocks {other:?} {others:?}, with {MOST_BLOCKS} {outcome:?} {answers:?}"
                 ));

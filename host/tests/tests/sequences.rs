@@ -130,10 +130,17 @@ impl Case for Sequence {
                 let with_room = call.less_no_room(&listed);
                 let shared = second.call(&with_room).map_err(|wrong| format!("second pool: {wrong}"))?;
                 let also_listed = second.slot.answers.given();
-                if shared != answer || also_listed != less_no_room(&listed) {
+                let [fewer, more] =
+                    [&first, &second].map(|pool| pool.slot.state.as_ref().map_or(0, |state| state.blocks));
+                if shared != call.with_more_blocks(answer, more as i32 - fewer as i32)
+                    || also_listed != less_no_room(&listed)
+                {
                     return Err(format!(
                         "{call:?}: the first pool answers {answer:?} {listed:?}, the second {shared:?} {also_listed:?}"
                     ));
+                }
+                if let Some(wrong) = second.slot.lent.other_than(&first.slot.lent) {
+                    return Err(format!("{call:?}: by the second pool, and not by the first, {wrong}"));
                 }
             }
             self.agree(&first.slot, &second.slot).map_err(|wrong| format!("after {call:?}: {wrong}"))?;
@@ -183,8 +190,9 @@ impl Sequence {
 
     /// How many reads, going by these answers, find an entry with the flag.
     fn whole_reads(&self, answers: &[Outcome]) -> usize {
-        let found =
-            |(call, answer): &(&Call, &Outcome)| matches!((call, answer), (Call::Read { .. }, [number::DONE, _, 1, _]));
+        let found = |(call, answer): &(&Call, &Outcome)| {
+            matches!((call, answer), (Call::Read { .. }, [number::DONE, _, 1, ..]))
+        };
         Repeated::each(&self.calls).zip(answers).filter(found).count()
     }
 
@@ -193,8 +201,23 @@ impl Sequence {
         let bin = |call: &Call| matches!(call, Call::Bin { .. } | Call::BinPixels { .. });
         let bins = Repeated::each(&self.calls).zip(answers).filter(|(call, _)| bin(call));
         let listed = bins.filter(|(_, [_, tiles, ..])| *tiles > 0);
-        let (with, without): (Vec<_>, Vec<_>) = listed.partition(|(_, [.., tests])| *tests > 0);
+        let (with, without): (Vec<_>, Vec<_>) = listed.partition(|(_, [.., tests, _])| *tests > 0);
         [with.len(), without.len()]
+    }
+
+    /// How many lists with entries, going by these answers, were read at once, and how many did not fit; and how many frames.
+    fn read_at_once(&self, answers: &[Outcome]) -> [usize; 4] {
+        let mut calls = [0; 4];
+        for (call, &[number, count, ..]) in Repeated::each(&self.calls).zip(answers) {
+            let which = match call {
+                Call::ReadList { .. } => 0,
+                Call::ReadAll { .. } => 2,
+                _ => continue,
+            };
+            calls[which] += usize::from(count > 0);
+            calls[which + 1] += usize::from(number == number::BUFFER);
+        }
+        calls
     }
 
     /// A pool's slot before it is opened: words that say nothing.
@@ -253,6 +276,8 @@ struct Reached {
     whole_read: usize,
     /// bins that list a shape with tests, and without
     tested: [usize; 2],
+    /// lists with entries that are read at once, and that do not fit; and frames
+    at_once: [usize; 4],
 }
 
 #[test]
@@ -269,6 +294,8 @@ fn two_pools_answer_and_hold_as_the_model() {
         reached.whole += seen.whole;
         reached.whole_read += case.whole_reads(&seen.answers);
         reached.tested.iter_mut().zip(case.tested(&seen.answers)).for_each(|(reached, bins)| *reached += bins);
+        let at_once = case.read_at_once(&seen.answers);
+        reached.at_once.iter_mut().zip(at_once).for_each(|(reached, calls)| *reached += calls);
         screens.push(case.screen);
         if cut_both_ways(case.screen) {
             cut += 1;
@@ -280,7 +307,9 @@ fn two_pools_answer_and_hold_as_the_model() {
     println!("{cut} sequences are on screens cut on both axes; each of the cut screens comes {rarest} times or more");
     println!("{in_fewer_tiles} shapes on these were listed in fewer tiles than full squares would have it");
     assert_eq!(reached.len(), LAYOUTS.len());
-    for Reached { numbers, run_out, chain, largest, shorter, whole, whole_read, tested } in reached.into_values() {
+    for Reached { numbers, run_out, chain, largest, shorter, whole, whole_read, tested, at_once } in
+        reached.into_values()
+    {
         assert!(numbers.keys().copied().eq((0..=11).chain([15])), "each number should be returned");
         assert!(numbers.values().all(|&calls| calls > 500), "and often");
         assert!(run_out > 500, "lists should often run out of room in the middle");
@@ -288,6 +317,7 @@ fn two_pools_answer_and_hold_as_the_model() {
         assert!(shorter > 60_000, "lists should often be shorter than they had been");
         assert!(whole > 10_000 && whole_read > 500, "entries with the flag should be common, and be read");
         assert!(tested.iter().all(|&bins| bins > 5000), "bins with tests and without should be common");
+        assert!(at_once.iter().all(|&calls| calls > 500), "lists and frames should be read at once, and some not fit");
     }
     assert!(cut > 10_000 && rarest > 3, "screens that are cut on both axes should be common");
     assert!(in_fewer_tiles > 5000, "it should often matter that tiles are cut");

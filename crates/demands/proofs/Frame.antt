@@ -3,7 +3,7 @@
 use mathlib.Core.Path.{_≡_, refl, sym, ap, ap₂, subst, _∙_}
 use mathlib.Core.Logic.{_⊎_, inl, inr}
 use mathlib.Core.List.{List, _++_, append-assoc}
-use Prim.Native.Nat.{ℕ, zero, suc, _+_, _-_, _≤_, _<_}
+use Prim.Native.Nat.{ℕ, zero, suc, _+_, _*_, _-_, _≤_, _<_}
 use native.Mathlib.Omega.{arith}
 use lib.ListN.{length, getD, take, drop, length-append}
 use lib.Seq.{drop-at, take-at}
@@ -12,17 +12,18 @@ use Rattle.pool.specs.Words.{layoutOf}
 use Rattle.pool.specs.Sound.{Sound, tilesOf, blocksOf}
 use Rattle.pool.specs.Lists.{table}
 use Rattle.pool.specs.Written.{written}
+use Rattle.pool.proofs.Editions.{layout-known, known-sized}
 use Rattle.pool.proofs.Lists.{table-same}
 use Rattle.pool.proofs.Written.{length-written, written-is}
 use Rattle.pool.proofs.Putting.{written-at, written-past}
 use Rattle.frame.specs.Frame.{listsOf}
-use Rattle.frame.proofs.Lists.{lists-split, start-at, starts-long}
+use Rattle.frame.proofs.Lists.{lists-split, start-at, starts-long, all-held}
 use Rattle.calls.specs.declared.Copied.{Copied}
 use Rattle.calls.specs.declared.PoolCounts.{PoolCounts}
 use Rattle.calls.specs.Tables.{listIn, freeIn, foundIn, ReadSays}
 use Rattle.calls.specs.Frame.{listsIn, startsIn, ReadListSays, ReadAllSays, CountsSays}
 use Rattle.demands.specs.Demand1.{Outside}
-use Rattle.demands.specs.Frame.{Demand1ReadList, Demand1ReadAll, Demand1Counts, Stands, AllListsStand, AgreesWithReads}
+use Rattle.demands.specs.Frame.{Demand1ReadList, Demand1ReadAll, Demand1Counts, Stands, AllListsStand, EntriesFit, AgreesWithReads}
 use Rattle.demands.specs.Frame.{withMore, ReadAlike, Demand3Frame, PastTheRoomFrame}
 use Rattle.demands.proofs.Runs.{run-stays}
 use Rattle.demands.proofs.Room.{same-sound, same-sym, tiles-same, blocks-same, free-same, lists-same}
@@ -160,6 +161,14 @@ all-lists-stand p s₀ e₀ a s e (ReadAllSays.done S k l r f g) z =
       last = start-is p s₀ e₀ s e k l f g (tilesOf p) (omega arith) ∙ sym (count-of r);
       each = list-stands p s₀ e₀ s e k l f g;
     }
+
+-- ---- how many words to lend
+
+pub entries-fit : EntriesFit
+entries-fit p a (CountsSays.damaged n e) =
+    subst (λ (b : PoolCounts). b .entries + layoutOf p .ids * b .free ≤ layoutOf p .ids * b .blocks) (sym e) (omega arith)
+entries-fit p a (CountsSays.done S e) =
+    subst (λ (b : PoolCounts). b .entries + layoutOf p .ids * b .free ≤ layoutOf p .ids * b .blocks) (sym e) (all-held S (known-sized (layout-known p)))
 
 -- ---- single reads
 

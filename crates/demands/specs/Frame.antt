@@ -1,12 +1,12 @@
--- The calls that read lists as a whole: demand 1 of them, where each list stands, that they agree with single reads, that two pools of demand 3 get the
--- same answers, and that words past the room do not matter.
+-- The calls that read lists as a whole: demand 1 of them, where each list stands, how many entries there are at most, that they agree with single reads, that
+-- two pools of demand 3 get the same answers, and that words past the room do not matter.
 use mathlib.Core.Path.{_≡_}
 use mathlib.Core.Logic.{_≢_, _⊎_}
 use mathlib.Core.List.{List, [], _∷_}
-use Prim.Native.Nat.{ℕ, suc, _+_, _-_, _≤_, _<_}
+use Prim.Native.Nat.{ℕ, suc, _+_, _*_, _-_, _≤_, _<_}
 use lib.ListN.{getD, take, drop}
 use Rattle.screen.specs.declared.Screen.{Screen}
-use Rattle.pool.specs.Words.{Layout}
+use Rattle.pool.specs.Words.{Layout, layoutOf}
 use Rattle.pool.specs.Sound.{tilesOf}
 use Rattle.calls.specs.declared.Found.{Found}
 use Rattle.calls.specs.declared.Copied.{Copied}
@@ -49,6 +49,12 @@ pub record AllStand (p : List ℕ) (a : Copied) (s e : List ℕ) : Type 0 where
 
 abbrev pub AllListsStand : Type 0
 AllListsStand = (p s₀ e₀ : List ℕ) (a : Copied) (s e : List ℕ) → ReadAllSays p s₀ e₀ a s e → a .number ≡ 0 → AllStand p a s e
+
+-- ---- how many words to lend
+
+-- no more entries than the blocks that are not free have places
+abbrev pub EntriesFit : Type 0
+EntriesFit = (p : List ℕ) (a : PoolCounts) → CountsSays p a → a .entries + layoutOf p .ids * a .free ≤ layoutOf p .ids * a .blocks
 
 -- ---- single reads
 

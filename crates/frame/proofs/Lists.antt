@@ -8,16 +8,17 @@ use native.Mathlib.Numerals.{add-one}
 use native.Mathlib.Omega.{arith}
 use lib.ListN.{length, getD, set, length-append}
 use Rattle.numbers.proofs.Ceil.{lt-or-ge}
-use Rattle.pool.specs.Words.{Layout}
+use Rattle.numbers.specs.Sum.{sumTo}
+use Rattle.pool.specs.Words.{Layout, headerWord}
+use Rattle.pool.specs.State.{tileOf}
 use Rattle.pool.specs.Editions.{Sized}
 use Rattle.pool.specs.Sound.{Sound, tilesOf, blocksOf}
 use Rattle.pool.specs.Lists.{listOf}
 use Rattle.pool.specs.Written.{written, Puts}
-use Rattle.pool.proofs.Lists.{getD-table, length-table}
-use Rattle.pool.proofs.Total.{entry-count≤}
+use Rattle.pool.proofs.Lists.{getD-table, length-table, listOf-tile, blocks-enough}
+use Rattle.pool.proofs.Total.{blocksInTiles, blocksInTiles-sum, blocks-total}
 use Rattle.pool.proofs.Putting.{Writing, write-start, write-step, write-end, puts-none, puts-then}
 use Rattle.lists.specs.Reach.{Among}
-use Rattle.lists.proofs.Reaches.{shown, entries-list}
 use Rattle.frame.specs.Frame.{listsOf, startsOf}
 
 module _ (L : Layout) (T : ℕ) (p : List ℕ) where
@@ -55,23 +56,36 @@ module _ (L : Layout) (T : ℕ) (p : List ℕ) where
 
 -- ---- of a sound pool
 
-module _ {L : Layout} {T : ℕ} {p : List ℕ} (S : Sound L p) (A : Sized L) (e : T ≡ tilesOf p) where
-  pub tile-among : {t : ℕ} → t < T → Among L p T t
-  tile-among h = record { sound = S; sized = A; tiles = e; tile = h }
+module _ {L : Layout} {p : List ℕ} (S : Sound L p) (A : Sized L) where
+  -- the lists of the first n tiles are held by their blocks
+  lists-held : (n : ℕ) → n ≤ tilesOf p → length (listsOf L (tilesOf p) p n) ≤ L .ids * sumTo n (λ t. length (tileOf (S .state) t .blocks))
+  lists-held zero h = omega arith
+  lists-held (suc t) h =
+      let k = S .shows .tile t h in
+      let list = listOf L (tilesOf p) p t in
+      let more = length-append (listsOf L (tilesOf p) p t) list in
+      omega (arith, lists-held t (omega arith), more, ap length (listOf-tile (A .fair) k), blocks-enough (A .fair) k)
 
-  -- a list has at most as many entries as all blocks hold
-  list-most : (t : ℕ) → t < T → length (listOf L T p t) ≤ 129024
-  list-most t h =
-      let G = tile-among h in
-      let most : L .ids * blocksOf p ≤ 63 * blocksOf p = mul-le-mul-right (blocksOf p) (A .ids≤) in
-      omega (arith, entries-list G, entry-count≤ (shown G) (A .fair) t h, S .opened .blocks≤)
+  -- and so all lists by the blocks that are not free
+  pub all-held : length (listsOf L (tilesOf p) p (tilesOf p)) + L .ids * headerWord p 4 ≤ L .ids * blocksOf p
+  all-held =
+      let R = S .shows in
+      let s = S .state in
+      let in-use : sumTo (tilesOf p) (λ t. length (tileOf s t .blocks)) ≡ blocksInTiles (s .tiles)
+      = ap (λ (n : ℕ). sumTo n (λ t. length (tileOf s t .blocks))) (sym (R .tiled)) ∙ sym (blocksInTiles-sum (s .tiles)) in
+      let all : L .ids * blocksOf p ≡ L .ids * (headerWord p 4 + sumTo (tilesOf p) (λ t. length (tileOf s t .blocks)))
+      = ap (λ (n : ℕ). L .ids * n) (omega (arith, blocks-total R, R .count, in-use)) in
+      omega (arith, all, lists-held (tilesOf p) (omega arith))
 
-  lists-most : (t : ℕ) → t ≤ T → length (listsOf L T p t) ≤ 129024 * t
-  lists-most zero h = omega arith
-  lists-most (suc t) h = omega (arith, lists-most t (omega arith), list-most t (omega arith), length-append (listsOf L T p t) (listOf L T p t))
+  module _ {T : ℕ} (e : T ≡ tilesOf p) where
+    pub tile-among : {t : ℕ} → t < T → Among L p T t
+    tile-among h = record { sound = S; sized = A; tiles = e; tile = h }
 
-  pub lists-fit : (t : ℕ) → t ≤ T → length (listsOf L T p t) < 2 ^ 32
-  lists-fit t h = omega (arith, lists-most t h, S .opened .screen .tiles≤)
+    pub lists-fit : (t : ℕ) → t ≤ T → length (listsOf L T p t) < 2 ^ 32
+    lists-fit t h =
+        let most : L .ids * blocksOf p ≤ 63 * blocksOf p = mul-le-mul-right (blocksOf p) (A .ids≤) in
+        let all : length (listsOf L T p T) ≤ L .ids * blocksOf p = rw e (omega (arith, all-held)) in
+        omega (arith, lists-grow L T p t T h, S .opened .blocks≤)
 
 -- ---- lists and starts, written side by side
 

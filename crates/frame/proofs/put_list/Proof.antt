@@ -116,7 +116,8 @@ loop-again c =
     let p = now (l .before .before .before .before .before .before .args .pool) in
     let rest = take-all (length p - r .at) (drop (r .at) p) (omega (arith, length-drop (r .at) p)) in
     let put = c .before .before .before .copy-stretch .ensures ∙ ap (λ (w : List ℕ). written (l .loop .list) (l .loop .next) (take (r .count) w)) rest in
-    λ t G e h. copy-step G (l .loop .inv t G e h) (omega (arith, h, v .before .loop-test .taken)) (ap (λ (n : ℕ). n - l .loop .next) h) (v .stretch-at .ensures) put
+    λ t G e h. copy-step G (l .loop .inv t G e h) (omega (arith, h, v .before .loop-test .taken))
+    (ap (λ (n : ℕ). n - l .loop .next) h) (v .stretch-at .ensures) put
 
 same-length : tie.Need-same-length Inv-loop μ-loop
 same-length c = puts-long (copying (c .before) .put)

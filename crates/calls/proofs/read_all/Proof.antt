@@ -16,14 +16,18 @@ use borrow.Author.Needs.{needs}
 use Rattle.calls.proofs.read_all.Statement.{statement}
 use Rattle.calls.proofs.read_all.Tie as tie
 
+-- where the call began
+abbrev start : tie.After-known-told → tie.Start
+start c = let audited = c .before .before .before in audited .before .before .before .before
+
 -- the pool is sound, and the header is its
-known : (c : tie.After-known-told) → let p = now (c .before .before .before .before .before .before .before .args .pool) in
+known : (c : tie.After-known-told) → let p = now (start c .args .pool) in
     Sound (layoutOf p) p × HeaderOf (layoutOf p) p (c .before .audited .given .0 .0)
 known c = told-sound (c .before .audited .given .1) (c .before .before .before .audit .ensures)
 
 -- as many entries as all lists have
 count-is : (e : tie.After-total-entries) →
-    e .total-entries .result ≡ length (listsIn (now (e .before .before .before .before .before .before .before .before .before .before .args .pool)))
+    e .total-entries .result ≡ length (listsIn (now (start (e .before .before .before) .args .pool)))
 count-is e = e .total-entries .ensures ∙ ap length (same-lists (known (e .before .before .before)))
 
 audit-requires : tie.Need-audit-requires
@@ -92,7 +96,7 @@ returns-4 c =
     let e = j .before .before in
     let i = e .before in
     let k = known (i .before .before) in
-    let a = i .before .before .before .before .before .before .before .before .before .args in
+    let a = start (i .before .before) .args in
     done (k .0)
     (omega (arith, i .if1 .left, i .before .wide .ensures, k .1 .tiles))
     (omega (arith, j .if2 .left, j .before .wide2 .ensures, count-is e))

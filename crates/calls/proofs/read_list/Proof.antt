@@ -15,19 +15,22 @@ use borrow.Author.Needs.{needs}
 use Rattle.calls.proofs.read_list.Statement.{statement}
 use Rattle.calls.proofs.read_list.Tie as tie
 
+-- where the call began
+abbrev start : tie.After-known-told → tie.Start
+start c = c .before .before .before .before .before .before
+
 -- the pool is sound, and the header is its
-known : (c : tie.After-known-told) → let p = now (c .before .before .before .before .before .before .args .pool) in
+known : (c : tie.After-known-told) → let p = now (start c .args .pool) in
     Sound (layoutOf p) p × HeaderOf (layoutOf p) p (c .before .audited .given .0 .0)
 known c = told-sound (c .before .audited .given .1) (c .before .before .before .audit .ensures)
 
 -- as many entries as the tile's list has
-count-is : (e : tie.After-entries) → let a = e .before .before .before .before .before .before .before .before .before .before .before .args in
+count-is : (e : tie.After-entries) → let a = start (e .before .before .before .before .before) .args in
     e .entries .result ≡ length (listIn (now (a .pool)) (a .tile .0))
 count-is e =
     let w = e .before in
-    let k = known (w .before .before .before .before) in
-    let t = w .before .before .before .before .before .before .before .before .before .before .args .tile .0 in
-    e .entries .ensures .1 ∙ ap length (same-list k t (w .wide .ensures))
+    let k = w .before .before .before .before in
+    e .entries .ensures .1 ∙ ap length (same-list (known k) (start k .args .tile .0) (w .wide .ensures))
 
 audit-requires : tie.Need-audit-requires
 audit-requires c κs = search needs
@@ -90,11 +93,10 @@ returns-4 c =
     let e = j .before .before in
     let w = e .before in
     let k = known (w .before .before .before .before) in
-    let t = w .before .before .before .before .before .before .before .before .before .before .args .tile .0 in
-    let old = now (w .before .before .before .before .before .before .before .before .before .before .args .entries) in
+    let a = start (w .before .before .before .before) .args in
     done (k .0) (a-tile k (w .before .if1 .left)) (omega (arith, j .if2 .left, j .before .wide2 .ensures, count-is e))
     (λ i. record { number = 0; count = count-is e i })
-    (v .put-list .ensures .after-is ∙ ap (written old 0) (same-list k t (w .wide .ensures)))
+    (v .put-list .ensures .after-is ∙ ap (written (now (a .entries)) 0) (same-list k (a .tile .0) (w .wide .ensures)))
 
 pub read-list-spec : {M : Type 1} → statement M
 read-list-spec =

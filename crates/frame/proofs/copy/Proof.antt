@@ -42,7 +42,7 @@ lesser-requires : tie.Need-lesser-requires Inv-loop μ-loop
 lesser-requires c κs = search needs
 
 add-copy-eight : tie.Need-add-copy-eight Inv-loop μ-loop
-add-copy-eight c = omega (arith, place (c .before), c .before .before .before .before .before .before .before .pre)
+add-copy-eight c = let l = c .before .before .before in omega (arith, place (c .before), l .before .before .before .before .pre)
 
 copy-eight-requires : tie.Need-copy-eight-requires Inv-loop μ-loop
 copy-eight-requires c κs =

@@ -51,8 +51,9 @@ slice-aggregate-put-line c = let e = copied (c .before .before .before .before) 
 
 put-line-requires : tie.Need-put-line-requires
 put-line-requires c κs =
-    let s = c .before .before .before .before .before .before .before .before .before .before in
-    rw (line (c .before .before)) at (s .pre .1 .1)
+    let i = c .before .before in
+    let v = i .before .before .before in
+    rw (line i) at (v .before .before .before .before .before .pre .1 .1)
 
 same-length-2 : tie.Need-same-length-2
 same-length-2 c = search needs

@@ -338,12 +338,15 @@ pub fn read_all(pool: &[u32], starts: &mut [u32], entries: &mut [u32]) -> Copied
     if starts.len() <= wide(header.tiles) {
         return not_copied(11);
     }
-    let count = frame::total_entries(pool, header.layout, header.tiles);
-    if entries.len() < wide(count) {
+    let total = frame::total_entries(pool, header.layout, header.tiles);
+    if entries.len() < wide(total) {
         return not_copied(11);
     }
     frame::put_lists(pool, header.layout, header.tiles, starts, entries);
-    Copied { number: 0, count }
+    Copied {
+        number: 0,
+        count: total,
+    }
 }
 
 // How many tiles, blocks, free blocks and entries a pool has: 0 and these, or 4.

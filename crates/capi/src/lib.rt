@@ -117,12 +117,12 @@ pub extern "C" fn flourscoop_counts(
 ) -> u32
     ensures { λ r. ⌜ CountsSays (now (pool .entry)) (poolCounts r (now (tiles .exit)) (now (blocks .exit)) (now (free .exit)) (now (entries .exit))) ⌝ }
 {
-    let answer = calls::counts(pool);
-    *tiles = answer.tiles;
-    *blocks = answer.blocks;
-    *free = answer.free;
-    *entries = answer.entries;
-    answer.number
+    let held = calls::counts(pool);
+    *tiles = held.tiles;
+    *blocks = held.blocks;
+    *free = held.free;
+    *entries = held.entries;
+    held.number
 }
 
 // The most entries that a tile's list had since the opening: 0, or 4, 9 in that order.

@@ -1,3 +1,4 @@
+#![tactic(auto)]
 // The audit of a pool: whether a slice of words is a sound pool, for any words and any length. It asks nothing of its caller and changes nothing.
 // Each block is marked as it is met, and no chain is followed past a marked block: the time is linear in the room, whatever the words are. These marks are
 // bytes on the stack; the mark of a tile is one of its words.
@@ -19,7 +20,7 @@ use pool::{
 use screen::{Block, Screen, Tile, allowed, tiles_of};
 
 // What the header of a sound pool says: the layout, the screen, how many tiles and blocks there are, and where the blocks start.
-#[derive(Drop)]
+#[derive(Clone, Copy)]
 pub struct Header {
     pub layout: Edition,
     pub screen: Screen,
@@ -29,14 +30,14 @@ pub struct Header {
 }
 
 // What an audit answers.
-#[derive(Drop)]
+#[derive(Clone, Copy)]
 pub enum Audited {
     Sound(Header),
     Damaged,
 }
 
 // Where a walk along a chain ended: at the link that named its last block, 0 if it has none.
-#[derive(Drop)]
+#[derive(Clone, Copy)]
 enum Walked {
     Broken,
     Ends(u32),

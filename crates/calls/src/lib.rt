@@ -1,3 +1,4 @@
+#![tactic(auto)]
 // The public calls. None asks anything of its caller: any words in the pool, any shape and any number are answered, and a refusal gives its
 // number, zero in every other field, and changes no word.
 ghost use Rattle.std.specs.Prelude.{◌≡◌, ◌≤◌, ◌<◌, length};
@@ -30,7 +31,7 @@ use touch::Cover;
 const BIN_WORDS: usize = 8;
 
 // What a bin answers: its number, the tiles listed, the blocks taken and the tests made.
-#[derive(Drop)]
+#[derive(Clone, Copy)]
 pub struct Binned {
     pub number: u32,
     pub tiles: u32,
@@ -39,14 +40,14 @@ pub struct Binned {
 }
 
 // What a release answers: its number, and the blocks given back.
-#[derive(Drop)]
+#[derive(Clone, Copy)]
 pub struct Released {
     pub number: u32,
     pub blocks: u32,
 }
 
 // What a read answers: its number, the id, and whether the shape covers the tile wholly.
-#[derive(Drop)]
+#[derive(Clone, Copy)]
 pub struct Found {
     pub number: u32,
     pub id: u32,
@@ -54,21 +55,21 @@ pub struct Found {
 }
 
 // What a question about a tile's mark answers: its number, and the most entries that the tile had since the opening.
-#[derive(Drop)]
+#[derive(Clone, Copy)]
 pub struct HighWater {
     pub number: u32,
     pub entries: u32,
 }
 
 // What a read of lists answers: its number, and how many entries were written.
-#[derive(Drop)]
+#[derive(Clone, Copy)]
 pub struct Copied {
     pub number: u32,
     pub count: u32,
 }
 
 // What a pool holds in sum: the answer's number, tiles, blocks, free blocks, and the entries of all lists.
-#[derive(Drop)]
+#[derive(Clone, Copy)]
 pub struct PoolCounts {
     pub number: u32,
     pub tiles: u32,
@@ -78,21 +79,21 @@ pub struct PoolCounts {
 }
 
 // What a question about a shape and a tile answers: its number, and how the shape covers the tile.
-#[derive(Drop)]
+#[derive(Clone, Copy)]
 pub struct Answered {
     pub number: u32,
     pub cover: Cover,
 }
 
 // What the question for a coordinate's unit answers: its number, and the unit.
-#[derive(Drop)]
+#[derive(Clone, Copy)]
 pub struct Rounded {
     pub number: u32,
     pub unit: i32,
 }
 
 // What a question for totals over a list of shapes answers: its number, and the totals.
-#[derive(Drop)]
+#[derive(Clone, Copy)]
 pub struct Counted {
     pub number: u32,
     pub totals: Totals,
@@ -419,7 +420,7 @@ pub fn release(pool: &mut [u32], tile: Tile) -> Released
 }
 
 // The rectangle that a question is about, or the number that it is refused with.
-#[derive(Drop)]
+#[derive(Clone, Copy)]
 enum Question {
     Asked(Rectangle),
     Refused(u32),

@@ -1,3 +1,4 @@
+#![tactic(auto)]
 // The public calls for C and Rust hosts, under their plain names: a slice passes as a pointer and a length, a shape as its coordinates, and each
 // answer but the number through a pointer, which is always written: zero where the call is refused. No function asks anything.
 ghost use Rattle.std.specs.Prelude.{◌≡◌};

@@ -1,3 +1,4 @@
+#![tactic(auto)]
 // The lists of a sound pool, read as a whole: one tile's, or all of them one after the other, and how many entries they have together. A chain is followed by
 // stretches: the entries of a list that stand in one block, side by side.
 ghost use Rattle.std.specs.Prelude.{◌≡◌, ◌+◌, ◌-◌, ◌<◌, ◌≤◌, min, length, take, drop};
@@ -13,7 +14,7 @@ use pool::{Edition, share};
 use screen::{Block, Tile};
 
 // Where the entries start that stand in one block, how many they are, and the link to the next block.
-#[derive(Drop)]
+#[derive(Clone, Copy)]
 pub struct Stretch {
     pub at: usize,
     pub count: usize,

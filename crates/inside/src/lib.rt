@@ -1,3 +1,4 @@
+#![tactic(auto)]
 // Whether a shape lies inside another: every vertex of the first is a point of the second, whose edges and vertices count.
 ghost use Rattle.std.specs.Prelude.{◌≡◌};
 ghost use Rattle.numbers.specs.Says.{Says};
@@ -13,7 +14,7 @@ use shapes::Checked;
 use touch::{Bounds, Edge, Edges};
 
 // What the question whether a shape lies inside another answers: its number, and whether it does.
-#[derive(Drop)]
+#[derive(Clone, Copy)]
 pub struct Nested {
     pub number: u32,
     pub inside: bool,

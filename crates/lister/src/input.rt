@@ -4,7 +4,7 @@ ghost use Rattle.lister.specs.Answer.{Within};
 use libc::STDIN_FILENO;
 
 // What was read: so many bytes at the start of the buffer, or a part that is not told, since a read failed.
-#[derive(Drop)]
+#[derive(Clone, Copy)]
 pub enum Input {
     Bytes(usize),
     Failed,

@@ -1,3 +1,4 @@
+#![tactic(auto)]
 // Lists a pool of little-endian words, read from standard input: a line for the screen, and one for each tile with entries. `specs/Answer.antt` says what is
 // written for any bytes.
 mod input;

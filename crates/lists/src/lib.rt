@@ -1,3 +1,4 @@
+#![tactic(auto)]
 // The lists of a sound pool: the blocks that a list of tiles needs, an append to one tile or to several, a release, and the entry at a place.
 // Each contract says the words that are left, whole; what they mean for the lists is in specs/Promises.
 ghost use Rattle.std.specs.Prelude.{◌≡◌, [], ◌∷◌, ◌+◌, ◌*◌, ◌^◌, ◌≤◌, ◌<◌, suc, max, length, take, get_or};

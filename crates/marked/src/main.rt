@@ -1,3 +1,4 @@
+#![tactic(auto)]
 // Runs the twelve marked cases through bin and through the two questions how a shape covers a tile, each on a freshly opened pool of the screen 64 by 32 with
 // s = 4, then the cases of the screen 60 by 32, and then the pool case to its end. Writes for each marked case the tiles listed, those by corner and those by
 // box, with a star behind those that are wholly covered.

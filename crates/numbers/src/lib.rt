@@ -1,3 +1,4 @@
+#![tactic(auto)]
 // The few functions on numbers that several crates share: a number in another type, and a number and a flag in one word.
 ghost use Rattle.std.specs.Prelude.{◌≡◌, ◌<◌, ◌^◌};
 ghost use Rattle.numbers.specs.Flag.{flag, flagged, plain, is_flagged};

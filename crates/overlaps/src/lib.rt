@@ -1,3 +1,4 @@
+#![tactic(auto)]
 // Totals over a list of shapes: how many tiles their bounding boxes meet, how many they touch, and what is between.
 ghost use Rattle.std.specs.Prelude.{◌≡◌, cond, ◌-◌, ◌≤◌, ◌<◌, length};
 ghost use Rattle.screen.specs.Screen.{Allowed};
@@ -13,7 +14,7 @@ use shape::Shape;
 
 // The totals: shapes in range, shapes with a coordinate out of range, the tiles by box and by touching of those in range and the difference, and the most tiles
 // that one of them touches, with the first place in the list, from 0, where it does.
-#[derive(Drop)]
+#[derive(Clone, Copy)]
 pub struct Totals {
     pub shapes: u32,
     pub out_of_range: u32,

@@ -1,3 +1,4 @@
+#![tactic(auto)]
 // The pool: a lent slice of words with a header, a table of tiles and blocks, and its opening. `specs/` says what a pool says and when it is sound.
 ghost use Rattle.std.specs.Prelude.{◌≡◌, suc, ◌+◌, ◌*◌, ◌^◌, ◌%◌, ◌<◌, ◌≤◌, min, length, replicate};
 ghost use Rattle.numbers.specs.Ceil.{ceil};
@@ -12,7 +13,7 @@ use numbers::{narrow, wide};
 use screen::{Block, Screen};
 
 // What differs from one edition to another: the words of the header, and the ids in a block.
-#[derive(Drop)]
+#[derive(Clone, Copy)]
 pub struct Edition {
     pub header: usize,
     pub ids: usize,

@@ -1,3 +1,4 @@
+#![tactic(auto)]
 // Document 01's pool case: a screen of 64 by 32, s = 4, two blocks, in a slice of 108 words that held something else. Writes what each opening
 // answers, and every word that it leaves.
 use libc::STDOUT_FILENO;

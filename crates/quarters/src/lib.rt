@@ -1,3 +1,4 @@
+#![tactic(auto)]
 // The map of the tiles that a shape touches, found by quarters: a square of tiles that is touched is split into four until single tiles are reached. One that
 // is not touched, or is off the grid, is left out, and one that the shape covers wholly is filled without another test.
 ghost use Rattle.std.specs.Prelude.{◌≡◌, ℕ, ◌+◌, ◌*◌, ◌^◌, ◌≤◌, ◌<◌, length};
@@ -16,7 +17,7 @@ use shape::Shape;
 use touch::{Bounds, Cover, Edges, Inward, Looked};
 
 // A square of 2^exponent by 2^exponent tiles, by the column and the row of its first.
-#[derive(Drop)]
+#[derive(Clone, Copy)]
 struct Square {
     column: u32,
     row: u32,

@@ -1,3 +1,4 @@
+#![tactic(auto)]
 // The screen, its tiles and their numbers, and the one place that knows the closed rectangle of a tile.
 ghost use Rattle.std.specs.Prelude.{◌≡◌, pos, negsuc, ◌≤ℤ◌, ℕ, ◌+◌, ◌*◌, ◌/◌, ◌%◌, ◌<◌, ◌≤◌, min};
 ghost use Rattle.numbers.specs.Says.{Says};
@@ -7,15 +8,15 @@ ghost use Rattle.screen.specs.Rectangle.{side, near, far, rectangle_at, Meeting}
 ghost use Rattle.screen.specs.Held.{held, rounded_down, rounded_up_less_one};
 
 // The number of a tile.
-#[derive(Drop)]
+#[derive(Clone, Copy)]
 pub struct Tile(pub u32);
 
 // The number of a block.
-#[derive(Drop)]
+#[derive(Clone, Copy)]
 pub struct Block(pub u32);
 
 // A screen of width by height pixels with tiles of 2^s by 2^s pixels.
-#[derive(Drop)]
+#[derive(Clone, Copy)]
 pub struct Screen {
     pub width: u32,
     pub height: u32,
@@ -23,7 +24,7 @@ pub struct Screen {
 }
 
 // A closed rectangle in units: from left to right and from top to bottom, all four sides included.
-#[derive(Drop)]
+#[derive(Clone, Copy)]
 pub struct Rectangle {
     pub left: i64,
     pub right: i64,
@@ -32,7 +33,7 @@ pub struct Rectangle {
 }
 
 // Columns, or rows, from start on and before end.
-#[derive(Drop)]
+#[derive(Clone, Copy)]
 pub struct Span {
     pub start: u32,
     pub end: u32,

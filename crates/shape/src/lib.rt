@@ -1,15 +1,16 @@
+#![tactic(auto)]
 // Shapes whose vertices are whole units: points, lines and triangles, in any winding and with any coincidence of vertices.
 ghost use Rattle.numbers.specs.Says.{Says};
 ghost use Rattle.shape.specs.Shape.{InUnits, Placed, InRange};
 
 // A vertex in units, a sixteenth of a pixel each; x to the right, y down.
-#[derive(Drop)]
+#[derive(Clone, Copy)]
 pub struct Vertex {
     pub x: i32,
     pub y: i32,
 }
 
-#[derive(Drop)]
+#[derive(Clone, Copy)]
 pub enum Shape {
     Point(Vertex),
     Line(Vertex, Vertex),

@@ -1,3 +1,4 @@
+#![tactic(auto)]
 // Lent lists of shapes: so many i32 words to a shape, of which the first seven are its kind, 1 for a point, 2 for a line, 3 for a triangle, and six
 // coordinates. Those of a vertex that the kind does not have are 0.
 ghost use Rattle.std.specs.Prelude.{◌≡◌, ℕ, ◌+◌, ◌≤◌, ◌<◌, pos, length, get_or};
@@ -7,7 +8,7 @@ ghost use Rattle.shapes.specs.Shapes.{words_from, RightWords, shape_from, CheckS
 use shape::{Shape, Vertex};
 
 // What a check of a list answers: how many shapes it has, or that it is wrong.
-#[derive(Drop)]
+#[derive(Clone, Copy)]
 pub enum Checked {
     Right(usize),
     Wrong,

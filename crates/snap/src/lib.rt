@@ -1,3 +1,4 @@
+#![tactic(auto)]
 // Shapes in f32 pixels to shapes in whole units, a sixteenth of a pixel each. A coordinate's unit is the whole number nearest to
 // sixteen times it, a half going to the even one. Every f32 is answered: no public function asks anything.
 ghost use Rattle.std.specs.Prelude.{◌≡◌, not, T};
@@ -10,20 +11,20 @@ ghost use Rattle.snap.specs.Shapes.{vertex_number_of, shape_number_of, vertex_of
 use shape::{Shape, Vertex};
 
 // A coordinate's unit, or the number of its refusal: 6 for an infinity and for what is no number, 7 for a unit out of range.
-#[derive(Drop)]
+#[derive(Clone, Copy)]
 pub enum Snapped {
     Unit(i32),
     Refused(u32),
 }
 
 // A vertex in pixels; x to the right, y down.
-#[derive(Drop)]
+#[derive(Clone, Copy)]
 pub struct PixelVertex {
     pub x: f32,
     pub y: f32,
 }
 
-#[derive(Drop)]
+#[derive(Clone, Copy)]
 pub enum PixelShape {
     Point(PixelVertex),
     Line(PixelVertex, PixelVertex),
@@ -31,14 +32,14 @@ pub enum PixelShape {
 }
 
 // A vertex in units, or the number of the first refusal, x before y.
-#[derive(Drop)]
+#[derive(Clone, Copy)]
 enum SnappedVertex {
     Whole(Vertex),
     Refused(u32),
 }
 
 // A shape in units, or the number of the first refusal, vertices in order.
-#[derive(Drop)]
+#[derive(Clone, Copy)]
 pub enum SnappedShape {
     Whole(Shape),
     Refused(u32),

@@ -1,3 +1,4 @@
+#![tactic(auto)]
 // Runs the table of document 01, and further coordinates and shapes, through `snap`. Writes a line for each: what was given, and the answer.
 use libc::STDOUT_FILENO;
 use shape::{Shape, Vertex};

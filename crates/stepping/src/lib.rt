@@ -1,3 +1,4 @@
+#![tactic(auto)]
 // The stepping walk: the tiles that a shape on the screen touches, once each, in rising number, with a flag for those that it covers wholly, and with a known
 // number of tests. It starts in the tile of the topmost vertex. In a row it tests to the right and then to the left of the row's start tile; the next row
 // starts with the first touched tile below the run. Shapes that reach off the screen are walked row by row in their bounding box, and no test of theirs counts.
@@ -19,21 +20,21 @@ use shape::{Shape, Vertex};
 use touch::{Cover, Edges, RowEdges, Three};
 
 // How many tiles are listed, and how many tests were made.
-#[derive(Drop)]
+#[derive(Clone, Copy)]
 pub struct Stepped {
     pub count: u32,
     pub tests: u32,
 }
 
 // Where the tests to one side of a start tile end, and the wholly covered tiles found so far.
-#[derive(Drop)]
+#[derive(Clone, Copy)]
 struct Side {
     end: u32,
     whole: Span,
 }
 
 // The run of a row, those of its tiles that are wholly covered, and the tests that it took.
-#[derive(Drop)]
+#[derive(Clone, Copy)]
 struct Step {
     run: Span,
     whole: Span,

@@ -1,3 +1,4 @@
+#![tactic(auto)]
 // Runs the twelve marked cases as one list, behind a shape that is out of range, and writes the totals; then the same list with a wrong kind, with an unused word
 // that is not 0, and, as it then is, on a screen outside the rules.
 use calls::Counted;

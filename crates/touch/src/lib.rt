@@ -1,3 +1,4 @@
+#![tactic(auto)]
 // How a shape covers a closed rectangle: whether its bounding box meets it, and exactly, by the corners of the rectangle: apart, partly or wholly.
 // The exact test comes in parts, so that what is the same for all rectangles, or for those of a row, is computed once.
 ghost use Rattle.std.specs.Prelude.{◌≡◌, true};
@@ -14,7 +15,7 @@ use screen::Rectangle;
 use shape::{Shape, Vertex};
 
 // Three vertices: those of a triangle, or of a line or a point with the last one repeated.
-#[derive(Drop)]
+#[derive(Clone, Copy)]
 pub struct Three {
     pub a: Vertex,
     pub b: Vertex,
@@ -22,7 +23,7 @@ pub struct Three {
 }
 
 // A bounding box: from left to right and from top to bottom, all four sides included.
-#[derive(Drop)]
+#[derive(Clone, Copy)]
 pub struct Bounds {
     pub left: i32,
     pub right: i32,
@@ -31,7 +32,7 @@ pub struct Bounds {
 }
 
 // An edge: where it starts, the differences to its end, and the edge value of the third vertex.
-#[derive(Drop)]
+#[derive(Clone, Copy)]
 pub struct Edge {
     pub x: i64,
     pub y: i64,
@@ -41,7 +42,7 @@ pub struct Edge {
 }
 
 // The three edges of a shape.
-#[derive(Drop)]
+#[derive(Clone, Copy)]
 pub struct Edges {
     pub ab: Edge,
     pub bc: Edge,
@@ -49,7 +50,7 @@ pub struct Edges {
 }
 
 // An edge in a row: upper and lower are the parts of its edge values that the top and the bottom of the row decide.
-#[derive(Drop)]
+#[derive(Clone, Copy)]
 pub struct RowEdge {
     pub x: i64,
     pub dy: i64,
@@ -59,7 +60,7 @@ pub struct RowEdge {
 }
 
 // The three edges of a shape in a row.
-#[derive(Drop)]
+#[derive(Clone, Copy)]
 pub struct RowEdges {
     pub ab: RowEdge,
     pub bc: RowEdge,
@@ -67,14 +68,14 @@ pub struct RowEdges {
 }
 
 // The least and the greatest of the edge values at the four corners of a rectangle.
-#[derive(Drop)]
+#[derive(Clone, Copy)]
 pub struct Ends {
     pub least: i64,
     pub greatest: i64,
 }
 
 // The edge values at the four corners of a rectangle: left and right at the top, left and right at the bottom.
-#[derive(Drop)]
+#[derive(Clone, Copy)]
 struct Corners {
     p: i64,
     q: i64,
@@ -83,14 +84,14 @@ struct Corners {
 }
 
 // On which side of an edge a rectangle lies: outer where the edge separates it from the shape, inner where it lies on the side of the third vertex.
-#[derive(Drop)]
+#[derive(Clone, Copy)]
 struct EdgeSide {
     outer: bool,
     inner: bool,
 }
 
 // Which edges of a shape have a rectangle on their inner side.
-#[derive(Drop)]
+#[derive(Clone, Copy)]
 pub struct Inward {
     pub ab: bool,
     pub bc: bool,
@@ -98,14 +99,14 @@ pub struct Inward {
 }
 
 // What a look at a rectangle tells: how the shape covers it, and edges that have it on their inner side.
-#[derive(Drop)]
+#[derive(Clone, Copy)]
 pub struct Looked {
     pub cover: Cover,
     pub inward: Inward,
 }
 
 // How a shape covers a rectangle: it touches it nowhere, or not all four corners are points of it, or all four are.
-#[derive(Drop)]
+#[derive(Clone, Copy)]
 pub enum Cover {
     Apart,
     Partly,

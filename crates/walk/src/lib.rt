@@ -1,3 +1,4 @@
+#![tactic(auto)]
 // The row walk: the tiles that a shape touches, once each, in rising number, with a flag for those that it covers wholly. Row by row in the bounding box, left to
 // right; a row is left after its run of touched tiles. No tile outside the box is tested, and none twice.
 ghost use Rattle.std.specs.Prelude.{List, ℕ, ◌+◌, ◌*◌, ◌≤◌, ◌<◌, length};
@@ -16,14 +17,14 @@ use shape::Shape;
 use touch::{Cover, Edges, RowEdges, Three};
 
 // The columns and the rows of a block of tiles.
-#[derive(Drop)]
+#[derive(Clone, Copy)]
 pub struct Spans {
     pub columns: Span,
     pub rows: Span,
 }
 
 // Where the run of a row starts: its first column, and whether the tile there is wholly covered.
-#[derive(Drop)]
+#[derive(Clone, Copy)]
 pub struct Start {
     pub column: u32,
     pub whole: bool,

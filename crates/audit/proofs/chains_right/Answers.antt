@@ -1,7 +1,6 @@
 -- `audit::chains_right` says whether all chains are right: the marks of the tiles and of the free chain together are 1 at every block.
 use mathlib.Core.Path.{refl}
 use native.Mathlib.Omega.{arith}
-use borrow.Author.Tests.{not-true, not-false}
 use Rattle.numbers.proofs.Says.{says_no, says_iff}
 use Rattle.pool.specs.Words.{header_word}
 use Rattle.pool.specs.Editions.{layout_for}
@@ -24,17 +23,17 @@ told c =
 pub returns-then-not-tiles_right : goal.returns-then-not-tiles_right
 returns-then-not-tiles_right c =
     says_no (λ h.
-    c.tiles_right.ensures.no (not-true _ c.if-not-tiles_right.true) h.tiles (λ b lt. omega (arith, zeros 2048 b, h.once b lt)))
+    c.tiles_right.ensures.no c.if-not-tiles_right.true h.tiles (λ b lt. omega (arith, zeros 2048 b, h.once b lt)))
 
 pub returns-in_default : goal.returns-in_default
 returns-in_default c =
-    let t = c.tiles_right.ensures.yes (not-false _ c.if-not-tiles_right.false) in
+    let t = c.tiles_right.ensures.yes c.if-not-tiles_right.false in
     let x = rw c.enum_told-in_default-1.given.1 at (told (goal.at.returns-in_default c).After-walk) in
     says_no (λ h. x h.free (λ b lt. omega (arith, zeros 2048 b, t.1 b, h.once b lt)))
 
 pub returns : goal.returns
 returns c =
-    let t = c.tiles_right.ensures.yes (not-false _ c.if-not-tiles_right.false) in
+    let t = c.tiles_right.ensures.yes c.if-not-tiles_right.false in
     let x = rw c.enum_told-1.given.1 at (told (goal.at.returns c).After-walk) in
     says_iff
     (λ all. record { tiles = t.0; free = x.run; once = λ b lt. omega (arith, zeros 2048 b, t.1 b, x.marked b, all b (omega arith)) })

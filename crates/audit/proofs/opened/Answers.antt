@@ -1,7 +1,6 @@
 -- `audit::opened` tests the words of the header that an opening writes, and the length, one after the other.
 use mathlib.Core.Path.{◌≡◌, ap₂, ◌∙◌}
 use native.Mathlib.Omega.{arith}
-use borrow.Author.Tests.{not-true, not-false}
 use Rattle.numbers.proofs.Says.{says_yes, says_no}
 use Rattle.screen.specs.Screen.{Allowed}
 use Rattle.pool.specs.Words.{start, room, header_word}
@@ -13,7 +12,7 @@ use Rattle.audit.proofs.opened.Goals.{After-room_of, Else-not-allowed}
 
 -- the screen is within the rules, past that test
 screened : (c : Else-not-allowed) → Allowed (screen_of c.args.pool.now)
-screened c = rw c.screen_of.ensures at (c.allowed.ensures.yes (not-false _ c.if-not-allowed.false))
+screened c = rw c.screen_of.ensures at (c.allowed.ensures.yes c.if-not-allowed.false)
 
 -- from where the room is asked for back to the header, and to the start
 abbrev to-header : tie.After-room-of → tie.After-header-of
@@ -36,7 +35,7 @@ pub screen_of-requires : goal.screen_of-requires
 screen_of-requires c = omega (arith, c.requires.fair.header>)
 
 pub returns-then-not-allowed : goal.returns-then-not-allowed
-returns-then-not-allowed c = says_no (λ o. c.allowed.ensures.no (not-true _ c.if-not-allowed.true) (rw c.screen_of.ensures o.screen))
+returns-then-not-allowed c = says_no (λ o. c.allowed.ensures.no c.if-not-allowed.true (rw c.screen_of.ensures o.screen))
 
 pub header_of-header-requires : goal.header_of-header-requires
 header_of-header-requires c = (omega (arith, c.requires.fair.header>), screened (goal.at.header_of-header-requires c).Else-not-allowed, c.requires)
@@ -56,7 +55,7 @@ pub rest_right-requires : goal.rest_right-requires
 rest_right-requires c = (c.requires, omega arith)
 
 pub returns-then-not-rest_right : goal.returns-then-not-rest_right
-returns-then-not-rest_right c = says_no (λ o. c.rest_right.ensures.no (not-true _ c.if-not-rest_right.true) (record { size = o.size_at; zero = o.zero_at }))
+returns-then-not-rest_right c = says_no (λ o. c.rest_right.ensures.no c.if-not-rest_right.true (record { size = o.size_at; zero = o.zero_at }))
 
 pub room_of-requires : goal.room_of-requires
 room_of-requires c = (c.requires, omega (arith, (screened (goal.at.room_of-requires c).Else-not-allowed).tiles≤), omega arith)
@@ -67,7 +66,7 @@ returns-then-pool-room_of c = says_no (λ o. omega (arith, needed (goal.at.retur
 pub returns : goal.returns
 unfolding header_word
 returns c =
-    let rest = c.rest_right.ensures.yes (not-false _ c.if-not-rest_right.false) in
+    let rest = c.rest_right.ensures.yes c.if-not-rest_right.false in
     says_yes
     record {
       screen = screened (goal.at.returns c).Else-not-allowed;

@@ -4,7 +4,7 @@ use mathlib.Core.Path.{◌≡◌, ◌∙◌}
 use mathlib.Core.List.{List}
 use Prim.Native.Nat.{ℕ, ◌+◌}
 use native.Mathlib.Omega.{arith}
-use borrow.Author.Tests.{eqb-true, eqb-false, not-true, not-false}
+use borrow.Author.Tests.{eqb-true, eqb-false, not-false}
 use lib.Dec.{eqb}
 use lib.ListN.{get_or}
 use Rattle.numbers.specs.Ceil.{ceil}
@@ -18,13 +18,13 @@ use Rattle.audit.proofs.Passing.{passes_no}
 use Rattle.audit.proofs.Reading.{tile_word_lem, tile_entries, of_tile}
 use Rattle.audit.proofs.Empty.{empty_right}
 use Rattle.audit.proofs.tile_right.Goals as goal
-use Rattle.audit.proofs.tile_right.Goals.{After-walk}
+use Rattle.audit.proofs.tile_right.Goals.{After-walk, After-wide-q}
 
 -- once the entries are read
 abbrev start : tie.After-wide2 → tie.Start
 start e = e.before.before.before.before.before.before.before.before
 
-module _ (e : tie.After-wide2) where
+module _ (e : After-wide-q) where
   abbrev p : List ℕ
   p = (start e).args.pool.now
 
@@ -59,7 +59,7 @@ told c =
     (entries c.UP-After-wide-q) (read c.UP-After-wide-q 1) c.blocks_for-steps.ensures c.walk.ensures
 
 pub returns-then-not-mark_right : goal.returns-then-not-mark_right
-returns-then-not-mark_right c = passes_no (λ h apart. c.mark_right.ensures.no (not-true _ c.if-not-mark_right.true) h.mark)
+returns-then-not-mark_right c = passes_no (λ h apart. c.mark_right.ensures.no c.if-not-mark_right.true h.mark)
 
 pub returns-then-q-eq0 : goal.returns-then-q-eq0
 returns-then-q-eq0 c =

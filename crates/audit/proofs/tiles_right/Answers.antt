@@ -4,7 +4,6 @@ use mathlib.Core.Path.{◌≡◌, refl, ap}
 use native.Mathlib.Omega.{arith}
 use borrow.Author.Rules.{rules}
 use borrow.Author.Count.{below_more, below_none}
-use borrow.Author.Tests.{not-true, not-false}
 use Rattle.pool.specs.Editions.{layout_for}
 use Rattle.audit.specs.Chain.{times_in_first}
 use Rattle.audit.specs.Walk.{chain_of}
@@ -23,7 +22,7 @@ returns-then-not-tile_right c =
     let t = c.loop-t.t in
     let f = chain_of (layout_for c.args.layout) c.args.pool.now c.args.from in
     passes_no (λ tiles apart.
-    c.tile_right.ensures.no (not-true _ c.if-not-tile_right.true) (tiles t (omega arith))
+    c.tile_right.ensures.no c.if-not-tile_right.true (tiles t (omega arith))
     (λ b lt. omega (arith, i.2 b, times_more b f t, times_grows b f (t + 1) c.args.count (omega arith), apart b lt)))
 
 pub overflow_add-t : goal.overflow_add-t
@@ -37,7 +36,7 @@ loop-t-preserved c =
     let i = c.loop-t.invariant in
     let t = c.loop-t.t in
     let f = chain_of (layout_for c.args.layout) c.args.pool.now c.args.from in
-    let x = c.tile_right.ensures.yes (not-false _ c.if-not-tile_right.false) in
+    let x = c.tile_right.ensures.yes c.if-not-tile_right.false in
     (omega arith, below_more _ _ i.1 x.0, λ b. omega (arith, i.2 b, x.1 b, times_more b f t), search rules)
 
 pub returns : goal.returns

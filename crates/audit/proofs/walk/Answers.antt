@@ -3,15 +3,15 @@ use Prim.Native.Nat.{ℕ, suc, ◌+◌, ◌*◌, ◌-◌, ◌<◌, ◌≤◌}
 use native.Mathlib.Nat.{mul-le-mul_left}
 use mathlib.Core.Path.{◌≡◌, ap}
 use native.Mathlib.Omega.{arith}
-use borrow.Author.Tests.{not-true, not-false}
 use lib.ListN.{length, get_or}
 use Rattle.pool.specs.Editions.{layout_for}
 use Rattle.audit.specs.Walk.{block_start}
 use Rattle.audit.proofs.Follow.{going_start, going_step, going_next, going_stops, going_ends}
 use Rattle.audit.proofs.walk.Goals as goal
+use Rattle.audit.proofs.walk.Goals.{Start}
 
 -- the block that a link names ends within the slice
-within : (s : tie.Start invariant-loop decreases-loop) (link : ℕ) → 0 < link → link ≤ s.args.blocks
+within : (s : Start) (link : ℕ) → 0 < link → link ≤ s.args.blocks
     → block_start (layout_for s.args.layout) s.args.from (link - 1 + 1) ≤ length s.args.pool.now
 within s link some h =
     let e : link - 1 + 1 ≡ link = omega arith in
@@ -46,7 +46,7 @@ block_right-requires c =
 
 pub returns-then-not-block_right : goal.returns-then-not-block_right
 returns-then-not-block_right c = λ r apart.
-    c.block_right.ensures.no (not-true _ c.if-not-block_right.true) (rw c.share-k.ensures (going_next _ _ _ _ c.loop-left.invariant (omega arith) r.chain r.filled apart).3)
+    c.block_right.ensures.no c.if-not-block_right.true (rw c.share-k.ensures (going_next _ _ _ _ c.loop-left.invariant (omega arith) r.chain r.filled apart).3)
 
 pub bounds-marks-b-in-loop-left : goal.bounds-marks-b-in-loop-left
 bounds-marks-b-in-loop-left c = omega arith
@@ -72,7 +72,7 @@ pub loop-left-preserved : goal.loop-left-preserved
 loop-left-preserved c =
     rw (c.wide-b.ensures, c.link_of-link.ensures)
     (going_step _ _ _ _ c.loop-left.invariant _ (omega arith) (omega arith) (omega arith) (omega arith) (omega (arith, ap (λ (i : ℕ). get_or c.loop-left.marks i 0) c.wide-b.ensures))
-    c.share-k.ensures (c.block_right.ensures.yes (not-false _ c.if-not-block_right.false)))
+    c.share-k.ensures (c.block_right.ensures.yes c.if-not-block_right.false))
 
 pub returns-then-link-ne0 : goal.returns-then-link-ne0
 returns-then-link-ne0 c = λ r apart. omega (arith, going_stops _ _ _ _ c.loop-left.invariant (omega arith) r.chain)

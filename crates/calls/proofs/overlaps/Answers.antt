@@ -1,7 +1,6 @@
 -- `calls::overlaps` meets its contract: each test tells a row of the table, or that its cause does not apply.
 use mathlib.Core.Path.{refl, subst}
 use Prim.Native.Nat.{ℕ}
-use borrow.Author.Tests.{not-true, not-false}
 use Rattle.screen.specs.Screen.{Allowed}
 use Rattle.shapes.specs.Shapes.{shape_at}
 use Rattle.overlaps.specs.Totals.{TotalsOf}
@@ -10,10 +9,10 @@ use Rattle.calls.proofs.overlaps.Goals as goal
 use Rattle.calls.proofs.overlaps.Goals.{After-check-checked}
 
 allowed-screen : (c : After-check-checked) → Allowed c.args.screen
-allowed-screen c = c.allowed.ensures.yes (not-false _ c.if-not-allowed.false)
+allowed-screen c = c.allowed.ensures.yes c.if-not-allowed.false
 
 pub returns-then-not-allowed : goal.returns-then-not-allowed
-returns-then-not-allowed c = bad_screen (c.allowed.ensures.no (not-true _ c.if-not-allowed.true)) c.not_counted.ensures
+returns-then-not-allowed c = bad_screen (c.allowed.ensures.no c.if-not-allowed.true) c.not_counted.ensures
 
 pub returns-in_default : goal.returns-in_default
 returns-in_default c =

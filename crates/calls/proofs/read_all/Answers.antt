@@ -12,7 +12,7 @@ use Rattle.calls.specs.Frame.{lists_in}
 use Rattle.calls.specs.Frame.ReadAllSays.{damaged, too_short, done}
 use Rattle.calls.proofs.Audits.{told-damaged, told_sound, carried_sound, carried_sized, same_lists, same_starts}
 use Rattle.calls.proofs.read_all.Goals as goal
-use Rattle.calls.proofs.read_all.Goals.{In-Sound}
+use Rattle.calls.proofs.read_all.Goals.{After-total_entries-total, In-Sound}
 
 -- where the call began
 abbrev start : tie.After-known-told → tie.Start
@@ -24,9 +24,9 @@ known : (c : In-Sound) → let p = (start c).args.pool.now in
 known c = told_sound c.audited-1.given.1 c.audit-audited.ensures
 
 -- as many entries as all lists have
-count_is : (e : tie.After-total-entries) →
-    e.total-entries.result ≡ length (lists_in (start e.before.before.before).args.pool.now)
-count_is e = e.total-entries.ensures ∙ ap length (same_lists (known e.before.before.before))
+count_is : (e : After-total_entries-total) →
+    e.total_entries-total.result ≡ length (lists_in (start e.UP-After-wide).args.pool.now)
+count_is e = e.total_entries-total.ensures ∙ ap length (same_lists (known e.UP-After-wide))
 
 pub returns-in_default : goal.returns-in_default
 returns-in_default c = damaged (told-damaged c.enum_told-1.given.1 c.audit-audited.ensures) c.not_copied.ensures refl refl

@@ -11,7 +11,7 @@ use Rattle.calls.specs.Tables.{list_in}
 use Rattle.calls.specs.Frame.ReadListSays.{damaged, no_tile, too_short, done}
 use Rattle.calls.proofs.Audits.{told-damaged, told_sound, past-tiles, a_tile, among, same_list}
 use Rattle.calls.proofs.read_list.Goals as goal
-use Rattle.calls.proofs.read_list.Goals.{In-Sound}
+use Rattle.calls.proofs.read_list.Goals.{After-entries-count, In-Sound}
 
 -- where the call began
 abbrev start : tie.After-known-told → tie.Start
@@ -23,12 +23,10 @@ known : (c : In-Sound) → let p = (start c).args.pool.now in
 known c = told_sound c.audited-1.given.1 c.audit-audited.ensures
 
 -- as many entries as the tile's list has
-count_is : (e : tie.After-entries) → let a = (start e.before.before.before.before.before).args in
-    e.entries.result ≡ length (list_in a.pool.now a.tile.0)
+count_is : (e : After-entries-count) → let a = (start e.UP-After-struct_known-1).args in
+    e.entries-count.result ≡ length (list_in a.pool.now a.tile.0)
 count_is e =
-    let w = e.before in
-    let k = w.before.before.before.before in
-    e.entries.ensures.1 ∙ ap length (same_list (known k) (start k).args.tile.0 w.wide.ensures)
+    e.entries-count.ensures.list ∙ ap length (same_list (known e.UP-After-struct_known-1) (start e.UP-After-struct_known-1).args.tile.0 e.wide.ensures)
 
 pub returns-in_default : goal.returns-in_default
 returns-in_default c = damaged (told-damaged c.enum_told-1.given.1 c.audit-audited.ensures) c.not_copied.ensures refl

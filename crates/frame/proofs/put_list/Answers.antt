@@ -11,24 +11,22 @@ use Rattle.pool.specs.Written.{written}
 use Rattle.pool.proofs.Putting.{puts_long}
 use Rattle.frame.proofs.Copying.{Copying, copy_start, copy_block, copy_part, copy_step, copy_end}
 use Rattle.frame.proofs.put_list.Goals as goal
-use Rattle.frame.proofs.put_list.Goals.{After-stretch_at-stretch}
+use Rattle.frame.proofs.put_list.Goals.{After-slice_known-1, After-stretch_at-stretch, After-wide, At-loop-next}
 
 -- the buffer is no longer than an index reaches
-list-fits : (k : tie.After-slice-known invariant-loop decreases-loop) → length k.before.before.args.list.now < 2 ^ 64
+list-fits : (k : After-slice_known-1) → length k.args.list.now < 2 ^ 64
 list-fits k = omega arith
 
 -- where the list ends, as the code reckons it
-ends : (w : tie.After-wide invariant-loop decreases-loop) → let a = w.before.before.before.before.args in
+ends : (w : After-wide) → let a = w.args in
     a.at + w.wide.result ≡ a.at + length (list_of (layout_for a.layout) a.tiles a.pool.now a.tile.0)
-ends w = ap (λ (n : ℕ). w.before.before.before.before.args.at + n) (w.wide.ensures ∙ w.before.entries.ensures.1)
+ends w = ap (λ (n : ℕ). w.args.at + n) (w.wide.ensures ∙ w.entries.ensures.list)
 
 -- that much of the tile's list
-copying : (l : tie.At-loop invariant-loop decreases-loop) → let a = l.before.before.before.before.before.before.args in
-    Copying (layout_for a.layout) a.tiles a.pool.now a.tile.0 a.list.now a.at l.loop.list l.loop.link l.loop.next
+copying : (l : At-loop-next) → let a = l.args in
+    Copying (layout_for a.layout) a.tiles a.pool.now a.tile.0 a.list.now a.at l.loop-next.list l.loop-next.link l.loop-next.next
 copying l =
-    let w = l.before.before in
-    let s = w.before.before.before.before in
-    l.loop.invariant s.args.tile.0 s.requires.0 l.before.first.ensures (ends w)
+    l.loop-next.invariant l.args.tile.0 l.requires.among l.first-link.ensures (ends l.UP-After-wide)
 
 -- what is copied next lies in the pool; there is some of it, and no more than is left
 next-part : (c : After-stretch_at-stretch) → let r = c.stretch_at-stretch.result in

@@ -8,12 +8,12 @@ use Rattle.pool.specs.Lists.{list_of}
 use Rattle.pool.proofs.Putting.{puts_long}
 use Rattle.frame.proofs.Lists.{frame_none, frame-next, frame_all, lists_longer, lists_grow, lists_fit, tile_among}
 use Rattle.frame.proofs.put_lists.Goals as goal
+use Rattle.frame.proofs.put_lists.Goals.{At-loop-t}
 
 -- the place of the next list fits a word
-place-fits : (l : tie.At-loop invariant-loop decreases-loop) → l.loop.next < 2 ^ 32
+place-fits : (l : At-loop-t) → l.loop-t.next < 2 ^ 32
 place-fits l =
-    let s = l.before.before.before.before.before in
-    omega (arith, l.loop.invariant.listed.next_is, lists_fit s.requires.0.0 s.requires.0.1 s.requires.0.2 l.loop.t l.loop.invariant.upto)
+    omega (arith, l.loop-t.invariant.listed.next_is, lists_fit l.requires.sound.0 l.requires.sound.1 l.requires.sound.2 l.loop-t.t l.loop-t.invariant.upto)
 
 pub loop-t-init : goal.loop-t-init
 loop-t-init c = frame_none

@@ -1,6 +1,6 @@
 -- `inside::has_point` meets its contract: a point that is not in the box, or beyond an edge, is none of the shape; another is.
 use mathlib.Core.Path.{sym, subst}
-use borrow.Author.Tests.{not-true, not-false}
+use borrow.Author.Tests.{not-false}
 use Rattle.numbers.proofs.Says.{says_no, says_iff, says_not}
 use Rattle.touch.specs.declared.Bounds.{Bounds}
 use Rattle.touch.specs.Corner.{triangle}
@@ -10,15 +10,16 @@ use Rattle.touch.proofs.Sizes.{outline_range}
 use Rattle.inside.specs.Point.{InBox}
 use Rattle.inside.proofs.Point.{PassesAt, outline_passes}
 use Rattle.inside.proofs.has_point.Goals as goal
+use Rattle.inside.proofs.has_point.Goals.{Start}
 
 -- a point of the shape passes the test
-passes : (s : tie.Start) → let v = s.args.vertex in let e = s.args.edges in HasPoint (triangle (starts e)) v.x v.y → PassesAt e v.x v.y
+passes : (s : Start) → let v = s.args.vertex in let e = s.args.edges in HasPoint (triangle (starts e)) v.x v.y → PassesAt e v.x v.y
 passes s = (outline_passes s.args.vertex.x s.args.vertex.y s.requires.0).1
 
 pub returns-then-not-in_box : goal.returns-then-not-in_box
 returns-then-not-in_box c =
     let v = c.args.vertex in
-    says_no (λ h. c.in_box.ensures.no (not-true _ c.if-not-in_box.true)
+    says_no (λ h. c.in_box.ensures.no c.if-not-in_box.true
     (subst (λ (p : Bounds). InBox p v.x v.y) (sym c.requires.1) (passes (goal.at.returns-then-not-in_box c).Start h).box))
 
 pub beyond_edge-requires : goal.beyond_edge-requires

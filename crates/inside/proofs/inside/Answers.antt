@@ -5,7 +5,6 @@ use Prim.Native.Nat.{◌≤◌}
 use native.Mathlib.Omega.{arith}
 use lib.IntN.{ℤ}
 use lib.ListN.{length}
-use borrow.Author.Tests.{not-true, not-false}
 use Rattle.numbers.proofs.Says.{says_and}
 use Rattle.shape.specs.Shape.{InRange}
 use Rattle.inside.specs.Inside.{OneShape, bad_list, out_of_range, done}
@@ -14,7 +13,7 @@ use Rattle.inside.proofs.inside.Goals.{Else-not-in_range, Else-not-one_shape}
 
 -- past the first test both are lists of one shape
 both_one : (c : Else-not-one_shape) → let a = c.args in OneShape a.first.now × OneShape a.second.now
-both_one c = (says_and c.one_shape.ensures c.one_shape-2.ensures).yes (not-false _ c.if-not-one_shape.false)
+both_one c = (says_and c.one_shape.ensures c.one_shape-2.ensures).yes c.if-not-one_shape.false
 
 -- such a list has seven words
 seven_words : (ws : List ℤ) → OneShape ws → 7 ≤ length ws
@@ -22,10 +21,10 @@ seven_words ws o = omega (arith, o.one)
 
 -- past the second test both shapes are in range
 both-in-range : (c : Else-not-in_range) → InRange c.shape_at-inner.result × InRange c.shape_at-outer.result
-both-in-range c = (says_and c.in_range.ensures c.in_range-2.ensures).yes (not-false _ c.if-not-in_range.false)
+both-in-range c = (says_and c.in_range.ensures c.in_range-2.ensures).yes c.if-not-in_range.false
 
 pub returns-then-not-one_shape : goal.returns-then-not-one_shape
-returns-then-not-one_shape c = bad_list ((says_and c.one_shape.ensures c.one_shape-2.ensures).no (not-true _ c.if-not-one_shape.true)) refl
+returns-then-not-one_shape c = bad_list ((says_and c.one_shape.ensures c.one_shape-2.ensures).no c.if-not-one_shape.true) refl
 
 pub shape_at-inner-requires : goal.shape_at-inner-requires
 shape_at-inner-requires c = seven_words _ (both_one (goal.at.shape_at-inner-requires c).Else-not-one_shape).0
@@ -38,7 +37,7 @@ returns-then-not-in_range c =
     let o = both_one (goal.at.returns-then-not-in_range c).Else-not-one_shape in
     let first = c.shape_at-inner.ensures in
     let second = c.shape_at-outer.ensures in
-    out_of_range o.0 o.1 (rw (first, second) at ((says_and c.in_range.ensures c.in_range-2.ensures).no (not-true _ c.if-not-in_range.true))) refl
+    out_of_range o.0 o.1 (rw (first, second) at ((says_and c.in_range.ensures c.in_range-2.ensures).no c.if-not-in_range.true)) refl
 
 pub is_inside-requires : goal.is_inside-requires
 is_inside-requires c = both-in-range (goal.at.is_inside-requires c).Else-not-in_range

@@ -2,7 +2,7 @@
 use mathlib.Core.Path.{◌≡◌, sym, ap, subst, ◌∙◌}
 use mathlib.Core.Bool.{Bool}
 use mathlib.Core.Logic.{◌↔◌}
-use borrow.Author.Tests.{not-true, not-false}
+use borrow.Author.Tests.{not-false}
 use Rattle.numbers.specs.Says.{Says}
 use Rattle.numbers.proofs.Says.{says_no, says_iff}
 use Rattle.shape.specs.declared.Vertex.{Vertex}
@@ -34,21 +34,20 @@ around : (c : After-edges_of-edges) → c.bounds_of-around.result ≡ bounds (st
 around c = c.bounds_of-around.ensures ∙ ap (λ (e : Edges). bounds (starts e)) (sym c.edges_of-edges.ensures)
 
 -- what is told of the triangle of the second's vertices is told of the second
-told : (t : tie.After-three-of2) (v : Vertex) (r : Bool) → Says r (HasPoint (triangle (starts t.before.edges-of.result)) v.x v.y)
-    → Says r (HasPoint t.before.before.before.before.args.second v.x v.y)
+told : (t : After-three_of-inner) (v : Vertex) (r : Bool) → Says r (HasPoint (triangle (starts t.edges_of-edges.result)) v.x v.y)
+    → Says r (HasPoint t.args.second v.x v.y)
 told t v r h =
-    let outer = t.before.before.before in
-    let second : Shape = outer.before.args.second in
-    let same : starts t.before.edges-of.result ≡ three second = ap starts t.before.edges-of.ensures ∙ outer.three-of.ensures in
+    let second : Shape = t.args.second in
+    let same : starts t.edges_of-edges.result ≡ three second = ap starts t.edges_of-edges.ensures ∙ t.three_of-outer.ensures in
     says_iff (point_as_triangle second).1 (point_as_triangle second).0
     (subst (λ (w : Three). Says r (HasPoint (triangle w) v.x v.y)) same h)
 
 -- the first is inside the second exactly if the three vertices are points of that
-by_three : (t : tie.After-three-of2) → let a = t.before.before.before.before.args in
-    ThreeInside t.three-of2.result a.second ↔ Inside a.first a.second
+by_three : (t : After-three_of-inner) → let a = t.args in
+    ThreeInside t.three_of-inner.result a.second ↔ Inside a.first a.second
 by_three t =
-    let a = t.before.before.before.before.args in
-    rw t.three-of2.ensures (inside_by_three a.first a.second)
+    let a = t.args in
+    rw t.three_of-inner.ensures (inside_by_three a.first a.second)
 
 pub edges_of-edges-requires : goal.edges_of-edges-requires
 edges_of-edges-requires c = outer-placed (goal.at.edges_of-edges-requires c).After-three_of-outer
@@ -58,14 +57,14 @@ has_point-a-requires c = (outlined (goal.at.has_point-a-requires c).After-three_
 
 pub returns-then-not-a : goal.returns-then-not-a
 returns-then-not-a c =
-    says_no (λ i. (told (goal.at.returns-then-not-a c).After-has_point-arg-1 c.three-of2.result.a _ c.has_point-a.ensures).no (not-true _ c.if-not-a.true) ((by_three (goal.at.returns-then-not-a c).After-has_point-arg-1).1 i).0)
+    says_no (λ i. (told (goal.at.returns-then-not-a c).After-has_point-arg-1 c.three-of2.result.a _ c.has_point-a.ensures).no c.if-not-a.true ((by_three (goal.at.returns-then-not-a c).After-has_point-arg-1).1 i).0)
 
 pub has_point-b-requires : goal.has_point-b-requires
 has_point-b-requires c = (outlined (goal.at.has_point-b-requires c).After-has_point-arg-1, around (goal.at.has_point-b-requires c).After-has_point-arg-1, (inner-placed (goal.at.has_point-b-requires c).After-has_point-a).b)
 
 pub returns-then-not-b : goal.returns-then-not-b
 returns-then-not-b c =
-    says_no (λ i. (told (goal.at.returns-then-not-b c).After-has_point-a c.three-of2.result.b _ c.has_point-b.ensures).no (not-true _ c.if-not-b.true) ((by_three (goal.at.returns-then-not-b c).After-has_point-a).1 i).1)
+    says_no (λ i. (told (goal.at.returns-then-not-b c).After-has_point-a c.three-of2.result.b _ c.has_point-b.ensures).no c.if-not-b.true ((by_three (goal.at.returns-then-not-b c).After-has_point-a).1 i).1)
 
 pub has_point-requires : goal.has_point-requires
 has_point-requires c = (outlined (goal.at.has_point-requires c).After-has_point-a, around (goal.at.has_point-requires c).After-has_point-a, (inner-placed (goal.at.has_point-requires c).Else-not-a).c)

@@ -7,9 +7,10 @@ use Rattle.pool.specs.Editions.{layout_for}
 use Rattle.pool.proofs.Editions.{sixty_three}
 use Rattle.lists.specs.Releasing.{fill}
 use Rattle.lists.proofs.poison.Goals as goal
+use Rattle.lists.proofs.poison.Goals.{Start}
 
 -- poison in the first n places
-abbrev poisoned : (s : tie.Start) (n : ℕ) → List ℕ
+abbrev poisoned : (s : Start) (n : ℕ) → List ℕ
 poisoned s n = fill (layout_for s.args.layout) s.args.tiles s.args.pool.now s.args.block.0 n
 
 pub poison_first-requires-else-layout-eq31 : goal.poison_first-requires-else-layout-eq31

@@ -1,6 +1,5 @@
 -- `overlaps::with` meets its contract: a shape out of range is counted apart, and another with its tiles by box and by touching.
 use native.Mathlib.Omega.{arith}
-use borrow.Author.Tests.{not-true, not-false}
 use Rattle.shape.specs.Shape.{InRange}
 use Rattle.overlaps.specs.HowMany.{TilesByTouching}
 use Rattle.overlaps.specs.Adding.{counted, other}
@@ -10,7 +9,7 @@ use Rattle.overlaps.proofs.with.Goals as goal
 use Rattle.overlaps.proofs.with.Goals.{After-touched_tiles-count, Else-not-in_range}
 
 inside : (c : Else-not-in_range) → InRange c.args.shape
-inside c = c.in_range.ensures.yes (not-false _ c.if-not-in_range.false)
+inside c = c.in_range.ensures.yes c.if-not-in_range.false
 
 touching : (c : After-touched_tiles-count)
     → TilesByTouching c.args.screen c.args.shape c.touched_tiles-count.result
@@ -21,7 +20,7 @@ pub with_other-requires : goal.with_other-requires
 with_other-requires c = let b = c.requires.1.out_of_range≤ in let p = c.requires.2 in omega arith
 
 pub returns-then-not-in_range : goal.returns-then-not-in_range
-returns-then-not-in_range c = other (c.in_range.ensures.no (not-true _ c.if-not-in_range.true)) c.with_other.ensures
+returns-then-not-in_range c = other (c.in_range.ensures.no c.if-not-in_range.true) c.with_other.ensures
 
 pub box_tiles-boxed-requires : goal.box_tiles-boxed-requires
 box_tiles-boxed-requires c = (c.requires.0, inside (goal.at.box_tiles-boxed-requires c).Else-not-in_range)

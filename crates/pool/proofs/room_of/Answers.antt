@@ -4,8 +4,9 @@ use native.Mathlib.Nat.{mul-le-mul_left}
 use native.Mathlib.Omega.{arith}
 use Rattle.pool.specs.Words.{start, room}
 use Rattle.pool.proofs.room_of.Goals as goal
+use Rattle.pool.proofs.room_of.Goals.{Start}
 
-product : (s : tie.Start) → s.args.layout.ids * s.args.blocks ≤ s.args.layout.ids * 2048
+product : (s : Start) → s.args.layout.ids * s.args.blocks ≤ s.args.layout.ids * 2048
 product s = mul-le-mul_left s.args.layout.ids s.requires.2
 
 pub overflow_mul-result-2 : goal.overflow_mul-result-2

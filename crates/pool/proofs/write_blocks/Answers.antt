@@ -7,9 +7,10 @@ use Rattle.pool.specs.Opening.{free_blocks}
 use Rattle.pool.specs.Written.{written}
 use Rattle.pool.proofs.Editions.{sixty_three}
 use Rattle.pool.proofs.write_blocks.Goals as goal
+use Rattle.pool.proofs.write_blocks.Goals.{Start}
 
 -- the words, where a block has n ids
-abbrev blocks-of : (s : tie.Start) (n : ℕ) → List ℕ
+abbrev blocks-of : (s : Start) (n : ℕ) → List ℕ
 blocks-of s n =
     written s.args.pool.now s.args.from (free_blocks (layout_for (record { header = s.args.layout.header; ids = n })) 0 s.args.blocks)
 

@@ -1,7 +1,6 @@
 -- `quarters::map` meets its contract: each test tells a row of the table, or that its cause does not apply.
 use mathlib.Core.Path.{refl, ◌∙◌}
 use native.Mathlib.Omega.{arith}
-use borrow.Author.Tests.{not-true, not-false}
 use Rattle.screen.specs.Screen.{Allowed}
 use Rattle.shape.specs.Shape.{InRange}
 use Rattle.quarters.specs.Map.MapSays.{bad_screen, out_of_range, too_short, done}
@@ -10,16 +9,16 @@ use Rattle.quarters.proofs.map.Goals.{Else-not-allowed, Else-not-in_range}
 
 -- past the first two tests the screen is allowed, and the shape in range
 screen_allowed : (c : Else-not-allowed) → Allowed c.args.screen
-screen_allowed c = c.allowed.ensures.yes (not-false _ c.if-not-allowed.false)
+screen_allowed c = c.allowed.ensures.yes c.if-not-allowed.false
 
 shape-in-range : (c : Else-not-in_range) → InRange c.args.shape
-shape-in-range c = c.in_range.ensures.yes (not-false _ c.if-not-in_range.false)
+shape-in-range c = c.in_range.ensures.yes c.if-not-in_range.false
 
 pub returns-then-not-allowed : goal.returns-then-not-allowed
-returns-then-not-allowed c = bad_screen (c.allowed.ensures.no (not-true _ c.if-not-allowed.true)) refl refl
+returns-then-not-allowed c = bad_screen (c.allowed.ensures.no c.if-not-allowed.true) refl refl
 
 pub returns-then-not-in_range : goal.returns-then-not-in_range
-returns-then-not-in_range c = out_of_range (screen_allowed (goal.at.returns-then-not-in_range c).Else-not-allowed) (c.in_range.ensures.no (not-true _ c.if-not-in_range.true)) refl refl
+returns-then-not-in_range c = out_of_range (screen_allowed (goal.at.returns-then-not-in_range c).Else-not-allowed) (c.in_range.ensures.no c.if-not-in_range.true) refl refl
 
 pub tiles_of-requires : goal.tiles_of-requires
 tiles_of-requires c = screen_allowed (goal.at.tiles_of-requires c).Else-not-allowed

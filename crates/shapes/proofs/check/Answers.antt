@@ -3,7 +3,6 @@ use mathlib.Core.Path.{refl, sym, subst}
 use Prim.Native.Nat.{ℕ, ◌-◌}
 use native.Mathlib.Omega.{arith}
 use borrow.Author.Count.{below_more}
-use borrow.Author.Tests.{not-true, not-false}
 use Rattle.shapes.specs.Shapes.{words_from, words_at, RightWords}
 use Rattle.shapes.proofs.Words.{place_room}
 use Rattle.shapes.proofs.check.Goals as goal
@@ -30,7 +29,7 @@ pub returns-then-not-right_at : goal.returns-then-not-right_at
 returns-then-not-right_at c =
     let l = c.loop-place in
     λ r.
-    c.right_at.ensures.no (not-true _ c.if-not-right_at.true)
+    c.right_at.ensures.no c.if-not-right_at.true
     (subst (λ (k : ℕ). RightWords (words_from c.args.list.now k)) (sym l.invariant.1) (r.each l.place c.loop-place-test.true))
 
 pub overflow_add-place : goal.overflow_add-place
@@ -47,7 +46,7 @@ loop-place-smaller c = omega arith
 pub loop-place-preserved : goal.loop-place-preserved
 loop-place-preserved c =
     let l = c.loop-place in
-    let right = c.right_at.ensures.yes (not-false _ c.if-not-right_at.false) in (
+    let right = c.right_at.ensures.yes c.if-not-right_at.false in (
       omega arith,
       omega (arith, l.invariant.1),
       below_more (λ i. RightWords (words_at c.args.size c.args.list.now i)) l.place l.invariant.2

@@ -3,7 +3,6 @@
 use mathlib.Core.Path.{refl, sym, subst}
 use mathlib.Core.Bool.{Bool, true, false, ◌&&◌}
 use lib.IntN.{ℤ}
-use borrow.Author.Tests.{not-true, not-false}
 use Rattle.numbers.specs.Says.{Says}
 use Rattle.numbers.proofs.Says.{says_iff, says_and}
 use Rattle.screen.specs.declared.Rectangle.{Rectangle}
@@ -30,7 +29,7 @@ says_whole_or_part e left right false s k = (k, s.no refl)
 box-met : (c : Else-not-overlap) → Box (triangle (starts c.args.edges)) c.args.rectangle
 box-met c =
     let q : Rectangle = c.args.rectangle in
-    subst (λ (p : Bounds). Overlap p q) c.requires.outline.1 (c.overlap.ensures.yes (not-false _ c.if-not-overlap.false))
+    subst (λ (p : Bounds). Overlap p q) c.requires.outline.1 (c.overlap.ensures.yes c.if-not-overlap.false)
 
 -- and what the edges tell is what the shape does
 told : (c : Else-not-overlap) → let q = c.args.rectangle in (r : answer.Cover)
@@ -39,7 +38,7 @@ told c = let p = c.requires.outline in outline_cover_at_says p.0 p.2 p.3 (box-me
 
 pub returns-then-not-overlap : goal.returns-then-not-overlap
 returns-then-not-overlap c =
-    let q : Rectangle = c.args.rectangle in record { cover = (λ h. c.overlap.ensures.no (not-true _ c.if-not-overlap.true) (subst (λ (p : Bounds). Overlap p q) (sym c.requires.outline.1) (touching_meets_box h))); inward = c.requires.inward_of }
+    let q : Rectangle = c.args.rectangle in record { cover = (λ h. c.overlap.ensures.no c.if-not-overlap.true (subst (λ (p : Bounds). Overlap p q) (sym c.requires.outline.1) (touching_meets_box h))); inward = c.requires.inward_of }
 
 pub side_at-ab-requires : goal.side_at-ab-requires
 side_at-ab-requires c = ((outline_range c.requires.outline.0).ab, c.requires.outline.2, c.requires.inward_of.ab)

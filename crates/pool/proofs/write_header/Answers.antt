@@ -2,9 +2,11 @@
 use mathlib.Core.Path.{ap, ◌∙◌}
 use native.Mathlib.Omega.{arith}
 use lib.ListN.{length, length-set}
+use Rattle.pool.specs.Words.{start}
 use Rattle.pool.specs.Opening.{header_for}
 use Rattle.pool.specs.Written.{written}
 use Rattle.pool.proofs.Written.{length-written}
+use borrow.Author.Rules.{rules}
 use Rattle.pool.proofs.write_header.Goals as goal
 
 pub bounds-pool-1 : goal.bounds-pool-1
@@ -27,6 +29,10 @@ bounds-pool-6 c = simp length-set (omega arith)
 
 pub bounds-pool-7 : goal.bounds-pool-7
 bounds-pool-7 c = simp length-set (omega arith)
+
+pub narrow-requires-2 : goal.narrow-requires-2
+unfolding start
+narrow-requires-2 c = search rules
 
 pub write_rest-requires : goal.write_rest-requires
 write_rest-requires c = (c.requires.allowed.1, simp length-set (omega arith))

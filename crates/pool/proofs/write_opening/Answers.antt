@@ -22,6 +22,10 @@ write_header-requires c =
       );
     }
 
+pub fill-requires : goal.fill-requires
+unfolding room start
+fill-requires c = search rules
+
 pub write_blocks-requires : goal.write_blocks-requires
 unfolding room start
 write_blocks-requires c =

@@ -1,5 +1,4 @@
 -- `fill`: after k words, writing the rest from there on gives what is promised; with none left, the words are that.
-use Prim.Native.Nat.{◌-◌}
 use Rattle.pool.proofs.Written.{fill_start, fill_step, fill_end}
 use Rattle.pool.proofs.fill.Goals as goal
 

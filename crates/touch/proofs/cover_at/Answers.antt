@@ -27,34 +27,34 @@ module _ (e : RowEdge) {l m : ℤ} {v : Ends} (f : SFits w64 l) (g : SFits w64 m
   within {r} k = let o = inner_is_on_side e l m in says_iff o.0 o.1 (subst (λ (u : Ends). Says r (Inner e.third u)) ends k)
 
 pub returns-then-outer : goal.returns-then-outer
-returns-then-outer c =
-    h.ab ((apart c.args.edges.ab c.ranges.left c.ranges.right c.ends_at.ensures c.outer.ensures).yes c.if-outer.true)
+returns-then-outer c = λ h.
+    h.ab ((apart c.args.edges.ab c.ranges.left c.ranges.right c.ends_at-ab.ensures c.outer.ensures).yes c.if-outer.true)
 
 pub returns-then-outer-2 : goal.returns-then-outer-2
-returns-then-outer-2 c =
-    h.bc ((apart c.args.edges.bc c.ranges.left c.ranges.right c.ends-at2.ensures c.outer-2.ensures).yes c.if-outer-2.true)
+returns-then-outer-2 c = λ h.
+    h.bc ((apart c.args.edges.bc c.ranges.left c.ranges.right c.ends_at-bc.ensures c.outer-2.ensures).yes c.if-outer-2.true)
 
 pub returns-then-outer-3 : goal.returns-then-outer-3
-returns-then-outer-3 c =
-    h.ca ((apart c.args.edges.ca c.ranges.left c.ranges.right c.ends-at3.ensures c.outer-3.ensures).yes c.if-outer-3.true)
+returns-then-outer-3 c = λ h.
+    h.ca ((apart c.args.edges.ca c.ranges.left c.ranges.right c.ends_at-ca.ensures c.outer-3.ensures).yes c.if-outer-3.true)
 
 pub returns-then-inner : goal.returns-then-inner
 returns-then-inner c =
-    let ab = within c.args.edges.ab c.ranges.left c.ranges.right c.ends_at.ensures c.inner.ensures in
-    let bc = within c.args.edges.bc c.ranges.left c.ranges.right c.ends-at2.ensures c.inner2.ensures in
-    let ca = within c.args.edges.ca c.ranges.left c.ranges.right c.ends-at3.ensures c.inner-3.ensures in
+    let ab = within c.args.edges.ab c.ranges.left c.ranges.right c.ends_at-ab.ensures c.inner.ensures in
+    let bc = within c.args.edges.bc c.ranges.left c.ranges.right c.ends_at-bc.ensures c.inner-2.ensures in
+    let ca = within c.args.edges.ca c.ranges.left c.ranges.right c.ends_at-ca.ensures c.inner-3.ensures in
     let h = (says_and (says_and ab bc) ca).yes c.if-inner.true in
     record { ab = h.0.0; bc = h.0.1; ca = h.1 }
 
 pub returns-else-inner : goal.returns-else-inner
 returns-else-inner c =
-    let ab = within c.args.edges.ab c.ranges.left c.ranges.right c.ends_at.ensures c.inner.ensures in
-    let bc = within c.args.edges.bc c.ranges.left c.ranges.right c.ends-at2.ensures c.inner2.ensures in
-    let ca = within c.args.edges.ca c.ranges.left c.ranges.right c.ends-at3.ensures c.inner-3.ensures in (
+    let ab = within c.args.edges.ab c.ranges.left c.ranges.right c.ends_at-ab.ensures c.inner.ensures in
+    let bc = within c.args.edges.bc c.ranges.left c.ranges.right c.ends_at-bc.ensures c.inner-2.ensures in
+    let ca = within c.args.edges.ca c.ranges.left c.ranges.right c.ends_at-ca.ensures c.inner-3.ensures in (
       record {
-        ab = (apart c.args.edges.ab c.ranges.left c.ranges.right c.ends_at.ensures c.outer.ensures).no c.if1.false;
-        bc = (apart c.args.edges.bc c.ranges.left c.ranges.right c.ends-at2.ensures c.outer2.ensures).no c.if2.false;
-        ca = (apart c.args.edges.ca c.ranges.left c.ranges.right c.ends-at3.ensures c.outer3.ensures).no c.if3.false;
+        ab = (apart c.args.edges.ab c.ranges.left c.ranges.right c.ends_at-ab.ensures c.outer.ensures).no c.if-outer.false;
+        bc = (apart c.args.edges.bc c.ranges.left c.ranges.right c.ends_at-bc.ensures c.outer-2.ensures).no c.if-outer-2.false;
+        ca = (apart c.args.edges.ca c.ranges.left c.ranges.right c.ends_at-ca.ensures c.outer-3.ensures).no c.if-outer-3.false;
       },
       λ h. (says_and (says_and ab bc) ca).no c.if-inner.false ((h.ab, h.bc), h.ca),
     )

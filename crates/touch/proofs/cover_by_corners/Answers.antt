@@ -33,34 +33,34 @@ module _ (e : RowEdge) {l m : ℤ} {v : Corners} (f : SFits w64 l) (g : SFits w6
 
 -- what the three edges say
 any-apart : (c : After-separates-3)
-    → Says ((c.separates.result || c.separates2.result) || c.separates-3.result)
+    → Says ((c.separates.result || c.separates-2.result) || c.separates-3.result)
     ((ApartAt c.args.edges.ab c.args.left c.args.right ⊎ ApartAt c.args.edges.bc c.args.left c.args.right)
     ⊎ ApartAt c.args.edges.ca c.args.left c.args.right)
 any-apart c =
-    let ab = apart c.args.edges.ab c.ranges.left c.ranges.right c.corners-at.ensures c.separates.ensures in
-    let bc = apart c.args.edges.bc c.ranges.left c.ranges.right c.corners-at2.ensures c.separates2.ensures in
-    let ca = apart c.args.edges.ca c.ranges.left c.ranges.right c.corners-at3.ensures c.separates-3.ensures in
+    let ab = apart c.args.edges.ab c.ranges.left c.ranges.right c.corners_at-ab.ensures c.separates.ensures in
+    let bc = apart c.args.edges.bc c.ranges.left c.ranges.right c.corners_at-bc.ensures c.separates-2.ensures in
+    let ca = apart c.args.edges.ca c.ranges.left c.ranges.right c.corners_at-ca.ensures c.separates-3.ensures in
     says_or (says_or ab bc) ca
 
 all-kept : (c : After-keeps-3)
-    → Says ((c.keeps.result && c.keeps2.result) && c.keeps-3.result)
+    → Says ((c.keeps.result && c.keeps-2.result) && c.keeps-3.result)
     ((Kept c.args.edges.ab c.args.left c.args.right × Kept c.args.edges.bc c.args.left c.args.right)
     × Kept c.args.edges.ca c.args.left c.args.right)
 all-kept c =
-    let ab = within c.args.edges.ab c.ranges.left c.ranges.right c.corners-at.ensures c.keeps.ensures in
-    let bc = within c.args.edges.bc c.ranges.left c.ranges.right c.corners-at2.ensures c.keeps2.ensures in
-    let ca = within c.args.edges.ca c.ranges.left c.ranges.right c.corners-at3.ensures c.keeps-3.ensures in
+    let ab = within c.args.edges.ab c.ranges.left c.ranges.right c.corners_at-ab.ensures c.keeps.ensures in
+    let bc = within c.args.edges.bc c.ranges.left c.ranges.right c.corners_at-bc.ensures c.keeps-2.ensures in
+    let ca = within c.args.edges.ca c.ranges.left c.ranges.right c.corners_at-ca.ensures c.keeps-3.ensures in
     says_and (says_and ab bc) ca
 
 pub returns-then-separates : goal.returns-then-separates
-returns-then-separates c = ⊎_elim (⊎_elim h.ab h.bc) h.ca ((any-apart (goal.at.returns-then-separates c).After-separates-3).yes c.if-separates.true)
+returns-then-separates c = λ h. ⊎_elim (⊎_elim h.ab h.bc) h.ca ((any-apart (goal.at.returns-then-separates c).After-separates-3).yes c.if-separates.true)
 
 pub returns-then-keeps : goal.returns-then-keeps
 returns-then-keeps c = let h = (all-kept (goal.at.returns-then-keeps c).After-keeps-3).yes c.if-keeps.true in record { ab = h.0.0; bc = h.0.1; ca = h.1 }
 
 pub returns-else-keeps : goal.returns-else-keeps
 returns-else-keeps c =
-    let none = (any-apart (goal.at.returns-else-keeps c).After-keeps).no c.if1.false in (
+    let none = (any-apart (goal.at.returns-else-keeps c).After-separates-3).no c.if-separates.false in (
       record { ab = λ h. none (inl (inl h)); bc = λ h. none (inl (inr h)); ca = λ h. none (inr h) },
       λ h. (all-kept (goal.at.returns-else-keeps c).After-keeps-3).no c.if-keeps.false ((h.ab, h.bc), h.ca),
     )

@@ -2,4 +2,4 @@
 use Rattle.touch.proofs.edges_of.Goals as goal
 
 pub returns : goal.returns
-returns c = λ i. record { ab = c.Edge-of.ensures i; bc = c.edge_of-2.ensures i; ca = c.edge_of-3.ensures i }
+returns c = λ i. record { ab = c.edge_of.ensures i; bc = c.edge_of-2.ensures i; ca = c.edge_of-3.ensures i }

@@ -12,4 +12,4 @@ returns c =
     let q = is_field w64 v.q c.struct_told-3-1.given.1.0.1 in
     let r = is_field w64 v.r c.struct_told-4-1.given.1.1.0.1 in
     let t = is_field w64 v.s c.struct_told-5-1.given.1.1.1.0.1 in
-    says_same (λ i. on_side (third.same i) (record { p = p.same i; q = q.same i; r = r.same i; (goal.at.returns c).Start = t.same i })) (on_side_says _ _)
+    says_same (λ i. on_side (third.same i) (record { p = p.same i; q = q.same i; r = r.same i; s = t.same i })) (on_side_says _ _)

@@ -45,37 +45,37 @@ side_at-ab-requires c = ((outline_range c.requires.outline.0).ab, c.requires.out
 
 pub returns-then-ab : goal.returns-then-ab
 returns-then-ab c =
-    record { cover = told (goal.at.returns-then-ab c).After-side_at-arg-1 answer.TheVariants.Apart (λ k. k.ab (c.side_at-ab.ensures.outer.yes c.if-ab.true)); inward = c.requires.inward_of }
+    record { cover = told (goal.at.returns-then-ab c).Else-not-overlap answer.TheVariants.Apart (λ k. k.ab (c.side_at-ab.ensures.outer.yes c.if-ab.true)); inward = c.requires.inward_of }
 
 pub side_at-bc-requires : goal.side_at-bc-requires
 side_at-bc-requires c = ((outline_range c.requires.outline.0).bc, c.requires.outline.2, c.requires.inward_of.bc)
 
 pub returns-then-bc : goal.returns-then-bc
 returns-then-bc c =
-    record { cover = told (goal.at.returns-then-bc c).After-side_at-ab answer.TheVariants.Apart (λ k. k.bc (c.side_at-bc.ensures.outer.yes c.if-bc.true)); inward = c.requires.inward_of }
+    record { cover = told (goal.at.returns-then-bc c).Else-not-overlap answer.TheVariants.Apart (λ k. k.bc (c.side_at-bc.ensures.outer.yes c.if-bc.true)); inward = c.requires.inward_of }
 
 pub side_at-ca-requires : goal.side_at-ca-requires
 side_at-ca-requires c = ((outline_range c.requires.outline.0).ca, c.requires.outline.2, c.requires.inward_of.ca)
 
 pub returns-then-ca : goal.returns-then-ca
 returns-then-ca c =
-    record { cover = told (goal.at.returns-then-ca c).Else-ab answer.TheVariants.Apart (λ k. k.ca (c.side_at-ca.ensures.outer.yes c.if-ca.true)); inward = c.requires.inward_of }
+    record { cover = told (goal.at.returns-then-ca c).Else-not-overlap answer.TheVariants.Apart (λ k. k.ca (c.side_at-ca.ensures.outer.yes c.if-ca.true)); inward = c.requires.inward_of }
 
 pub returns : goal.returns
 returns c =
     let q : Rectangle = c.args.rectangle in
     let e = c.args.edges in
-    let ab = c.side-at.ensures in
-    let bc = c.side-at2.ensures in
+    let ab = c.side_at-ab.ensures in
+    let bc = c.side_at-bc.ensures in
     let ca = c.side_at-ca.ensures in
     let row : RowEdges = row_edges e q.top q.bottom in
     let clear : Clear row q.left q.right
-    = record { ab = ab.outer.no c.if2.false; bc = bc.outer.no c.if3.false; ca = ca.outer.no c.if-ca.false } in
-    let all : Bool = (c.side-at.result.inner && c.side-at2.result.inner) && c.side_at-ca.result.inner in
+    = record { ab = ab.outer.no c.if-ab.false; bc = bc.outer.no c.if-bc.false; ca = ca.outer.no c.if-ca.false } in
+    let all : Bool = (c.side_at-ab.result.inner && c.side_at-bc.result.inner) && c.side_at-ca.result.inner in
     let enclosed : Says all (EnclosedAt row q.left q.right)
     = says_iff (λ h. record { ab = h.0.0; bc = h.0.1; ca = h.1 }) (λ h. ((h.ab, h.bc), h.ca))
     (says_and (says_and ab.inner bc.inner) ca.inner) in record {
       cover = subst (λ (r : answer.Cover). CoverSays r (triangle (starts e)) q) (sym c.whole_or_part.ensures)
-          (told (goal.at.returns c).Else-ab (whole_or_part all) (says_whole_or_part row q.left q.right all enclosed clear));
+          (told (goal.at.returns c).Else-not-overlap (whole_or_part all) (says_whole_or_part row q.left q.right all enclosed clear));
       inward = record { ab = ab.inner.yes; bc = bc.inner.yes; ca = ca.inner.yes };
     }

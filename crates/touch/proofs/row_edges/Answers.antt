@@ -18,7 +18,7 @@ returns c =
     let e = c.args.edges in
     let f = c.ranges in
     λ i. record {
-      ab = (c.row-edge.ensures ∙ in_row e.ab f.top f.bottom) i;
-      bc = (c.row-edge2.ensures ∙ in_row e.bc f.top f.bottom) i;
+      ab = (c.row_edge.ensures ∙ in_row e.ab f.top f.bottom) i;
+      bc = (c.row_edge-2.ensures ∙ in_row e.bc f.top f.bottom) i;
       ca = (c.row_edge-3.ensures ∙ in_row e.ca f.top f.bottom) i;
     }

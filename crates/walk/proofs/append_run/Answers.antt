@@ -5,7 +5,6 @@ use mathlib.Core.Bool.{Bool}
 use native.Mathlib.Omega.{arith}
 use lib.ListN.{length}
 use borrow.Author.Rules.{rules}
-use borrow.Author.Tests.{not-true, not-false}
 use Rattle.numbers.specs.Flag.{flag}
 use Rattle.numbers.specs.Says.{Says}
 use Rattle.touch.proofs.Covering.{cover_says_clear, cover_says_enclosed}
@@ -28,7 +27,7 @@ returns-then-not-is_touched c =
         stop = l.column;
         within = search rules;
         run = l.invariant.1;
-        ends = λ h. (cover_says_clear cover.result cover.ensures).no (sym c.is_touched.ensures ∙ not-true _ c.if-not-is_touched.true);
+        ends = λ h. (cover_says_clear cover.result cover.ensures).no (sym c.is_touched.ensures ∙ c.if-not-is_touched.true);
       };
       words = l.invariant.2;
     }
@@ -57,7 +56,7 @@ loop-column-preserved c =
     let r = l.invariant.1 in
     let size = l.invariant.2.size in
     let cover = c.cover_in-next in
-    let clear = (cover_says_clear cover.result cover.ensures).yes (sym c.is_touched.ensures ∙ not-false _ c.if-not-is_touched.false) in
+    let clear = (cover_says_clear cover.result cover.ensures).yes (sym c.is_touched.ensures ∙ c.if-not-is_touched.false) in
     let whole : Says c.is_whole.result (EnclosedIn d e l.column)
     = subst (λ (a : Bool). Says a (EnclosedIn d e l.column)) (sym c.is_whole.ensures) (cover_says_enclosed cover.result cover.ensures) in
     let at : l.n < length l.list = omega (arith, r.as_many, r.from≤) in

@@ -13,14 +13,14 @@ meeting-columns-requires c =
     let b = c.bounds_of-around in
     let read = kept_is w32 b.result.right c.struct_told-2-1.given.1.0.1 ∙ ap (λ (a : Bounds). a.right) b.ensures in
     let units = subst InUnits (sym read) (right_in_units c.requires.1) in
-    ((c.requires.0.width≤, c.requires.0.s≥, c.requires.0.s≤), (units.low, units.high))
+    record { extent_bound = (c.requires.0.width≤, c.requires.0.s≥, c.requires.0.s≤); negsuc_bound = (units.low, units.high) }
 
 pub meeting-rows-requires : goal.meeting-rows-requires
 meeting-rows-requires c =
     let b = c.bounds_of-around in
     let read = kept_is w32 b.result.bottom c.struct_told-4-1.given.1.1.1.0.1 ∙ ap (λ (a : Bounds). a.bottom) b.ensures in
     let units = subst InUnits (sym read) (bottom_in_units c.requires.1) in
-    ((c.requires.0.height≤, c.requires.0.s≥, c.requires.0.s≤), (units.low, units.high))
+    record { extent_bound = (c.requires.0.height≤, c.requires.0.s≥, c.requires.0.s≤); negsuc_bound = (units.low, units.high) }
 
 pub returns : goal.returns
 returns c =

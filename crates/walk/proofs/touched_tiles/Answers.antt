@@ -29,11 +29,11 @@ edges_of-requires c = placed (goal.at.edges_of-requires c).After-three_of-vertic
 pub walk_rows-requires : goal.walk_rows-requires
 walk_rows-requires c =
     let d = c.args.screen in
-    let spans = c.box-spans in
-    let edges = sym c.edges-of.ensures in record {
+    let spans = c.box_spans-spans in
+    let edges = sym c.edges_of.ensures in record {
       allowed = (
         c.requires.0,
-        subst Outline edges (outline (placed (goal.at.walk_rows-requires c).After-edges_of)),
+        subst Outline edges (outline (placed (goal.at.walk_rows-requires c).After-three_of-vertices)),
         subst (λ (e : Edges). MeetingColumns d e spans.result.columns) edges spans.ensures.columns,
         subst (λ (e : Edges). MeetingRows d e spans.result.rows) edges spans.ensures.rows,
       );
@@ -45,15 +45,15 @@ returns c =
     let d = c.args.screen in
     let shape = c.args.shape in
     let walked = c.walk_rows in
-    let edges = c.edges-of.ensures ∙ ap edges_of c.three-of.ensures in
+    let edges = c.edges_of.ensures ∙ ap edges_of c.three_of-vertices.ensures in
     let room = c.requires.0.tiles≤ in
     let long = c.requires.2 in
     let old = c.args.list.now in
-    let new = walked.new.1.1.1.1.0 in
+    let new = walked.new.list in
     lists_walked (omega arith)
     (lists_iff (IsTouched d (outlined (edges_of (three shape)))) (IsTouched d shape)
     (λ t p. (p.0, (touches_as_triangle shape).1 p.1))
     (λ t p. (p.0, (touches_as_triangle shape).0 p.1))
-    (subst (λ (e : Edges). Lists (IsTouched d (outlined e)) walked.result (plains old) (plains new)) edges walked.ensures.0))
+    (subst (λ (e : Edges). Lists (IsTouched d (outlined e)) walked.result (plains old) (plains new)) edges walked.ensures.numbers))
     (words_map (Flagged d shape) (λ w h. says_iff (wholly_as_triangle shape).1 (wholly_as_triangle shape).0 h)
-    (subst (λ (e : Edges). Words (Flagged d (outlined e)) 0 walked.result old new) edges walked.ensures.1))
+    (subst (λ (e : Edges). Words (Flagged d (outlined e)) 0 walked.result old new) edges walked.ensures.words))

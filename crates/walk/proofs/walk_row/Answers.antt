@@ -21,7 +21,7 @@ pub returns-then-end-column : goal.returns-then-end-column
 returns-then-end-column c =
     let d = c.args.screen in
     let found = c.first_touched-first in
-    let first = subst (λ (e : RowEdges). First (ClearIn d e) c.args.span found.result.column) c.edges_in_row-in_row.ensures.is found.ensures.0 in
+    let first = subst (λ (e : RowEdges). First (ClearIn d e) c.args.span found.result.column) c.edges_in_row-in_row.ensures.is found.ensures.column in
     λ old g. (
       row_without d c.requires.allowed.0 c.args.edges c.requires.allowed.1 c.args.row c.requires.row_bound.0 c.requires.row_bound.1 c.args.span c.requires.allowed.2 first (search rules) g.0,
       g.1,
@@ -82,16 +82,16 @@ returns c =
     let at = c.wide-at.ensures in
     let word = c.flagged.ensures ∙ (λ i. flagged (row * columns i + column) found.result.whole) in
     let run = c.append_run in
-    let exit = run.new.1.1.1.1.0 in
+    let exit = run.new.list in
     λ old.
     row_named d ok c.args.edges c.requires.allowed.1 row c.requires.row_bound.0 c.requires.row_bound.1 c.args.span c.requires.allowed.2 old c.args.list.now exit
-    (subst (λ (e : RowEdges). First (ClearIn d e) c.args.span column) edges found.ensures.0) (search rules)
-    (subst (λ (e : RowEdges). Says found.result.whole (EnclosedIn d e column)) edges (found.ensures.1 (search rules)))
+    (subst (λ (e : RowEdges). First (ClearIn d e) c.args.span column) edges found.ensures.column) (search rules)
+    (subst (λ (e : RowEdges). Says found.result.whole (EnclosedIn d e column)) edges (found.ensures.whole (search rules)))
     (omega (arith, row_room d ok c.requires.row_bound.0, columns≥ d ok))
     (subst (λ (P : Type 0). P)
     (λ i. RunIn (ClearIn d (edges i)) (row * columns i) (record { start = column + 1; end = c.args.span.end }) (c.args.count + 1) run.result
     (plains (set c.args.list.now (at i) (word i))) (plains exit))
-    run.ensures.0)
+    run.ensures.run)
     (subst (λ (P : Type 0). P)
     (λ i. Words (Tested d (edges i) (row * columns i)) (c.args.count + 1) run.result (set c.args.list.now (at i) (word i)) exit)
-    run.ensures.1)
+    run.ensures.words)

@@ -17,13 +17,11 @@ walk_row-count-requires c =
     let rows = c.requires.allowed.3 in
     let in_rows : In c.args.rows l.row = record { from = l.invariant.0; before = search rules } in
     let within = rows.within in
-    let size = l.invariant.1.1.size in (
-      (c.requires.allowed.0, c.requires.allowed.1, c.requires.allowed.2),
-      (
-        (omega arith, rows.sound l.row in_rows),
-        (lists_few l.count l.invariant.1.0 (λ t p. p.0), omega arith),
-      ),
-    )
+    let size = l.invariant.1.1.size in record {
+      allowed = (c.requires.allowed.0, c.requires.allowed.1, c.requires.allowed.2);
+      row_bound = (omega arith, rows.sound l.row in_rows);
+      count_bound = (lists_few l.count l.invariant.1.0 (λ t p. p.0), omega arith);
+    }
 
 pub loop-row-preserved : goal.loop-row-preserved
 loop-row-preserved c = let l = c.loop-row in (search rules, c.walk_row-count.ensures _ l.invariant.1)

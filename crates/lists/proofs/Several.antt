@@ -60,7 +60,7 @@ module _ {L : Layout} {T N : ℕ} (A : Fair L) (entry : ℕ → ℕ) (in_range :
       let M = append_step A R long t (entry t) (D.below t (times_head t ts)) (in_range t) here in
       let f = append_free ids s t (entry t) here in
       let n = need_other ids s t (entry t) ts (distinct_first D) in
-      let I = append_all_shows {append L T p t (entry t)} {r} ts M.shows (rw M.within.keeps.long long) (distinct_rest D) (omega arith) in
+      let I = append_all_shows {p = append L T p t (entry t)} {s = r} ts M.shows (rw M.within.keeps.long long) (distinct_rest D) (omega arith) in
       let K = I.1 in
       let apart : (u : ℕ) → times u (t ∷ ts) ≡ 0 → u ≢ t = (λ u z e. times_differ t u (t ∷ ts) (times_head t ts) z (sym e)) in (
         I.0,

@@ -42,11 +42,11 @@ tile_word-last-requires c = tile_in c.requires.among (omega arith)
 
 pub overflow_sub-head : goal.overflow_sub-head
 unfolding header_word
-overflow_sub-head c = omega (arith, (takeable c.requires.among c.requires.tile_bound (sym (left_is (goal.at.overflow_sub-head c).After-remainder) ∙ c.if1.false)).0)
+overflow_sub-head c = omega (arith, (takeable c.requires.among c.requires.tile_bound (sym (left_is (goal.at.overflow_sub-head c).After-remainder) ∙ c.if-remainder-ne0.false)).0)
 
 pub take_block-requires : goal.take_block-requires
 unfolding header_word
-take_block-requires c = (takeable c.requires.among c.requires.tile_bound (sym (left_is (goal.at.take_block-requires c).After-remainder) ∙ c.if1.false)).1
+take_block-requires c = (takeable c.requires.among c.requires.tile_bound (sym (left_is (goal.at.take_block-requires c).After-remainder) ∙ c.if-remainder-ne0.false)).1
 
 pub tile_index-requires : goal.tile_index-requires
 tile_index-requires c = omega (arith, tile_in c.requires.among {i = 1} (omega arith))
@@ -78,4 +78,4 @@ pub returns-else-entries-eq0 : goal.returns-else-entries-eq0
 unfolding header_word block_set
 returns-else-entries-eq0 c =
     append-next (layout_for c.args.layout) _ _ _ _ _ _ _ refl c.take_block.ensures _ c.tile_word-last.ensures
-    (sym (left_is (goal.at.returns-else-entries-eq0 c).After-remainder) ∙ c.if1.false) (λ w. c.if-entries-eq0.false (c.tile_word-entries.ensures ∙ w)) (rw c.block_index.ensures)
+    (sym (left_is (goal.at.returns-else-entries-eq0 c).After-remainder) ∙ c.if-remainder-ne0.false) (λ w. c.if-entries-eq0.false (c.tile_word-entries.ensures ∙ w)) (rw c.block_index.ensures)

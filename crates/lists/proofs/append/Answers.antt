@@ -19,7 +19,7 @@ left_is c = let a = c.args in c.remainder.ensures ∙ ap (λ (n : ℕ). n % a.la
 -- where the tile has entries, the link of its last block lies in the pool
 last_in : (c : Else-entries-eq0) → let a = c.args in
     (0 < c.tile_word-last.result) × BlockIn (layout_for a.layout) a.tiles a.pool.now (c.tile_word-last.result - 1) a.layout.ids
-last_in c = rw c.tile_word-last.ensures (last_reach c.requires.among (λ z. c.if-entries-eq0.false (c.tile_word_lem.ensures ∙ z)))
+last_in c = rw c.tile_word-last.ensures (last_reach c.requires.among (λ z. c.if-entries-eq0.false (c.tile_word-entries.ensures ∙ z)))
 
 pub tile_word-entries-requires : goal.tile_word-entries-requires
 tile_word-entries-requires c = tile_in c.requires.among (omega arith)
@@ -42,11 +42,11 @@ tile_word-last-requires c = tile_in c.requires.among (omega arith)
 
 pub overflow_sub-head : goal.overflow_sub-head
 unfolding header_word
-overflow_sub-head c = omega (arith, (takeable c.requires.among c.requires.tile_bound (sym (left_is (goal.at.overflow_sub-head c).After-wide) ∙ c.if1.false)).0)
+overflow_sub-head c = omega (arith, (takeable c.requires.among c.requires.tile_bound (sym (left_is (goal.at.overflow_sub-head c).After-remainder) ∙ c.if-remainder-ne0.false)).0)
 
 pub take_block-requires : goal.take_block-requires
 unfolding header_word
-take_block-requires c = (takeable c.requires.among c.requires.tile_bound (sym (left_is (goal.at.take_block-requires c).After-wide) ∙ c.if1.false)).1
+take_block-requires c = (takeable c.requires.among c.requires.tile_bound (sym (left_is (goal.at.take_block-requires c).After-remainder) ∙ c.if-remainder-ne0.false)).1
 
 pub tile_index-requires : goal.tile_index-requires
 tile_index-requires c = omega (arith, tile_in c.requires.among {i = 1} (omega arith))
@@ -72,10 +72,10 @@ bounds-pool-block_index c = omega (arith, (last_in (goal.at.bounds-pool-block_in
 pub returns-then-entries-eq0 : goal.returns-then-entries-eq0
 unfolding header_word tile_set
 returns-then-entries-eq0 c =
-    append_first_lem (layout_for c.args.layout) _ _ _ _ _ _ _ refl c.take_block.ensures (sym c.tile_word_lem.ensures ∙ c.if-entries-eq0.true) (rw c.tile_index.ensures)
+    append_first_lem (layout_for c.args.layout) _ _ _ _ _ _ _ refl c.take_block.ensures (sym c.tile_word-entries.ensures ∙ c.if-entries-eq0.true) (rw c.tile_index.ensures)
 
 pub returns-else-entries-eq0 : goal.returns-else-entries-eq0
 unfolding header_word block_set
 returns-else-entries-eq0 c =
     append-next (layout_for c.args.layout) _ _ _ _ _ _ _ refl c.take_block.ensures _ c.tile_word-last.ensures
-    (sym (left_is (goal.at.returns-else-entries-eq0 c).After-wide) ∙ c.if1.false) (λ w. c.if-entries-eq0.false (c.tile_word_lem.ensures ∙ w)) (rw c.block_index.ensures)
+    (sym (left_is (goal.at.returns-else-entries-eq0 c).After-remainder) ∙ c.if-remainder-ne0.false) (λ w. c.if-entries-eq0.false (c.tile_word-entries.ensures ∙ w)) (rw c.block_index.ensures)

@@ -38,4 +38,4 @@ shape_of-pool c = ap length c.set_entries.ensures ∙ simp length-set
 pub returns : goal.returns
 unfolding append_in tile_set block_set
 returns c =
-    rw (c.set_entries.ensures, c.block_index.ensures, c.remainder.ensures, c.wide.ensures, c.tile_word-last.ensures, c.tile_word_lem.ensures)
+    rw (c.set_entries.ensures, c.block_index.ensures, c.remainder.ensures, c.wide.ensures, c.tile_word-last.ensures, c.tile_word-entries.ensures)

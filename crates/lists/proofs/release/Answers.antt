@@ -22,27 +22,27 @@ overflow_sub-block c =
 
 pub block_word-link-requires : goal.block_word-link-requires
 block_word-link-requires c =
-    let g = giving_block c.loop.invariant.1 c.loop-test.true in
+    let g = giving_block c.loop-link.invariant.1 c.loop-link-test.true in
     g.1.block
 
 pub give_block-requires : goal.give_block-requires
 give_block-requires c =
-    let g = giving_block c.loop.invariant.1 c.loop-test.true in
+    let g = giving_block c.loop-link.invariant.1 c.loop-link-test.true in
     g.1
 
 pub overflow_add-given : goal.overflow_add-given
 overflow_add-given c =
-    let g = giving_block c.loop.invariant.1 c.loop-test.true in
-    omega (arith, c.loop.invariant.1.most)
+    let g = giving_block c.loop-link.invariant.1 c.loop-link-test.true in
+    omega (arith, c.loop-link.invariant.1.most)
 
 pub loop-link-smaller : goal.loop-link-smaller
 loop-link-smaller c =
-    let g = giving_block c.loop.invariant.1 c.loop-test.true in
+    let g = giving_block c.loop-link.invariant.1 c.loop-link-test.true in
     omega arith
 
 pub loop-link-preserved : goal.loop-link-preserved
 loop-link-preserved c =
-    (search rules, giving_step c.loop.invariant.1 c.loop-test.true _ _ _ (omega arith) c.give_block.ensures c.block_word-link.ensures)
+    (search rules, giving_step c.loop-link.invariant.1 c.loop-link-test.true _ _ _ (omega arith) c.give_block.ensures c.block_word-link.ensures)
 
 pub tile_index-requires : goal.tile_index-requires
 tile_index-requires c = omega (arith, tile_in c.requires {i = 3} (omega arith))

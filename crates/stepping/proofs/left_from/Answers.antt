@@ -3,7 +3,6 @@
 use Prim.Native.Nat.{◌-◌, ◌≤◌}
 use mathlib.Core.Path.{sym, subst, ◌∙◌}
 use native.Mathlib.Omega.{arith}
-use borrow.Author.Tests.{not-true, not-false}
 use Rattle.screen.specs.declared.Span.{Span}
 use Rattle.touch.proofs.Covering.{cover_says_clear, cover_says_enclosed}
 use Rattle.walk.specs.Row.{ClearIn, EnclosedIn}
@@ -22,7 +21,7 @@ returns-then-not-is_touched c =
     let l = c.loop-end in
     let s = c.args in
     let cover = c.cover_in-cover in
-    let missed = sym c.is_touched.ensures ∙ not-true _ c.if-not-is_touched.true in record {
+    let missed = sym c.is_touched.ensures ∙ c.if-not-is_touched.true in record {
       back = record {
         within = l.invariant.0;
         to = l.invariant.1;
@@ -44,7 +43,7 @@ loop-end-preserved c =
       search rules,
       search rules,
       down_to (omega arith) l.invariant.2
-          ((cover_says_clear cover.result cover.ensures).yes (sym c.is_touched.ensures ∙ not-false _ c.if-not-is_touched.false)),
+          ((cover_says_clear cover.result cover.ensures).yes (sym c.is_touched.ensures ∙ c.if-not-is_touched.false)),
       λ n to h.
           subst (λ (r : Span). Hull P n (l.end - 1) to r) (sym c.grown-found.ensures)
           (hull_left P (l.invariant.3 n to h) cover.result (omega arith) (cover_says_enclosed cover.result cover.ensures)),

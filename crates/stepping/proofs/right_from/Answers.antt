@@ -3,7 +3,6 @@
 use Prim.Native.Nat.{◌+◌, ◌≤◌, ◌-◌}
 use mathlib.Core.Path.{sym, subst, ◌∙◌}
 use native.Mathlib.Omega.{arith}
-use borrow.Author.Tests.{not-true, not-false}
 use Rattle.screen.specs.declared.Span.{Span}
 use Rattle.touch.proofs.Covering.{cover_says_clear, cover_says_enclosed}
 use Rattle.walk.specs.Row.{EnclosedIn}
@@ -21,7 +20,7 @@ pub returns-then-not-is_touched : goal.returns-then-not-is_touched
 returns-then-not-is_touched c =
     let l = c.loop-end in
     let cover = c.cover_in-cover in
-    let missed = sym c.is_touched.ensures ∙ not-true _ c.if-not-is_touched.true in
+    let missed = sym c.is_touched.ensures ∙ c.if-not-is_touched.true in
     record { reach = record { from = l.invariant.0; within = omega arith; all = l.invariant.2; ends = λ h. (cover_says_clear cover.result cover.ensures).no missed }; whole = l.invariant.3 }
 
 pub grown-found-requires : goal.grown-found-requires
@@ -35,7 +34,7 @@ loop-end-preserved c =
     let P = EnclosedIn s.screen s.edges in (
       search rules,
       search rules,
-      up_to l.invariant.2 ((cover_says_clear cover.result cover.ensures).yes (sym c.is_touched.ensures ∙ not-false _ c.if-not-is_touched.false)),
+      up_to l.invariant.2 ((cover_says_clear cover.result cover.ensures).yes (sym c.is_touched.ensures ∙ c.if-not-is_touched.false)),
       λ n from h.
           subst (λ (r : Span). Hull P n from (l.end + 1) r) (sym c.grown-found.ensures)
           (hull_right P (l.invariant.3 n from h) cover.result (cover_says_enclosed cover.result cover.ensures)),

@@ -38,10 +38,11 @@ step_row-step-requires c =
     let b = walking_from d ok e on old l.list w in
     let within = rows.within in
     let m = rows.sound l.row (record { from = omega arith; before = omega arith }) in
-    let n = walking_inside d ok e on old l.list c.requires.meeting_columns.0 w in (
-      (ok, c.requires.allowed.1, c.requires.meeting_columns.0),
-      ((omega arith, m, n.0, n.1), walking_below d ok e on old l.list (omega arith) m w),
-    )
+    let n = walking_inside d ok e on old l.list c.requires.meeting_columns.0 w in record {
+      allowed = (ok, c.requires.allowed.1, c.requires.meeting_columns.0);
+      row_bound = (omega arith, m, n.0, n.1);
+      hit_in = walking_below d ok e on old l.list (omega arith) m w;
+    }
 
 pub overflow_add-tests : goal.overflow_add-tests
 overflow_add-tests c =
@@ -66,13 +67,13 @@ overflow_mul-row c =
 
 pub append-count-requires : goal.append-count-requires
 append-count-requires c =
-    let l = c.loop in
+    let l = c.loop-row in
     let d = c.args.screen in
     let ok = c.requires.allowed.0 in
     let w = c.requires.meeting_columns.1.within in
-    let m = ap (λ (x : ℕ). l.row * x) c.columns_of.ensures in
+    let m = ap (λ (x : ℕ). l.row * x) c.columns_of-columns.ensures in
     let r = row_room d ok {row = l.row} (omega arith) in
-    let f = c.step_row.ensures.row_tests in
+    let f = c.step_row-step.ensures.row_tests in
     let a = row_some d ok (outlined c.args.edges) f in
     let b = row_end≤ d ok (outlined c.args.edges) f in
     let n = walking_count d ok c.args.edges c.requires.allowed.2 c.args.list.now l.list l.invariant.1 in
@@ -83,18 +84,18 @@ append-count-requires c =
 pub overflow_add-row : goal.overflow_add-row
 overflow_add-row c =
     let w = c.requires.meeting_columns.1.within in
-    let h = c.loop-test.true in
+    let h = c.loop-row-test.true in
     let r = rows≤ c.args.screen c.requires.allowed.0 in
     omega arith
 
 pub loop-row-preserved : goal.loop-row-preserved
 loop-row-preserved c =
-    let l = c.loop in
+    let l = c.loop-row in
     let w = c.requires.meeting_columns.1.within in
-    let h = c.loop-test.true in
+    let h = c.loop-row-test.true in
     let append = c.append-count.ensures in (
       omega arith,
-      walking_on c.args.screen c.requires.allowed.0 c.args.edges c.requires.allowed.2 c.args.list.now l.list _ c.columns_of.ensures (omega arith) c.step_row.ensures
+      walking_on c.args.screen c.requires.allowed.0 c.args.edges c.requires.allowed.2 c.args.list.now l.list _ c.columns_of-columns.ensures (omega arith) c.step_row-step.ensures
           append.run append.words l.invariant.1,
     )
 

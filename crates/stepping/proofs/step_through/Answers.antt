@@ -48,19 +48,19 @@ edges_of-requires c = placed (goal.at.edges_of-requires c).After-three_of-vertic
 pub step_rows-requires : goal.step_rows-requires
 step_rows-requires c =
     let d = c.args.screen in
-    let spans = c.box-spans in
-    let told = c.edges-of.ensures in
-    let vertices = c.three-of.ensures in
+    let spans = c.box_spans-spans in
+    let told = c.edges_of.ensures in
+    let vertices = c.three_of-vertices.ensures in
     let edges = told ∙ ap edges_of vertices in
     let same = sym (ap starts told) in
-    let t = c.topmost-of in
+    let t = c.topmost_of-top in
     let top = t.ensures ∙ ap topmost same in
-    let g = c.struct-told2.given in
+    let g = c.struct_told-2-1.given in
     let x = kept_is w32 t.result.x g.0.1 ∙ ap (λ (v : Vertex). v.x) top in
     let y = kept_is w32 t.result.y g.1.0.1 ∙ ap (λ (v : Vertex). v.y) top in record {
       allowed = (
         c.requires.0,
-        subst Outline (sym told) (outline (placed (goal.at.step_rows-requires c).After-topmost_of-top)),
+        subst Outline (sym told) (outline (placed (goal.at.step_rows-requires c).After-three_of-vertices)),
         subst (λ (e : Edges). OnScreen d (outlined e)) (sym edges) (triangle_on_screen d c.args.shape c.requires.1),
       );
       meeting_columns = (
@@ -68,8 +68,8 @@ step_rows-requires c =
         subst (λ (e : Edges). MeetingRows d e spans.result.rows) (sym told) spans.ensures.rows,
       );
       first_value = (
-        c.rounded-up-less-one.ensures ∙ ap (rounded_up_less_one d.height d.s) y,
-        c.rounded-down.ensures ∙ ap (rounded_down d.width d.s) x,
+        c.rounded_up_less_one-row.ensures ∙ ap (rounded_up_less_one d.height d.s) y,
+        c.rounded_down-column.ensures ∙ ap (rounded_down d.width d.s) x,
         c.requires.2,
       );
     }
@@ -78,6 +78,6 @@ pub returns : goal.returns
 returns c =
     let d = c.args.screen in
     let stepped = c.step_rows in
-    let edges = c.edges-of.ensures ∙ ap edges_of c.three-of.ensures in
+    let edges = c.edges_of.ensures ∙ ap edges_of c.three_of-vertices.ensures in
     walked_as d c.args.shape c.requires.1
-    (subst (λ (e : Edges). WalkedThrough d (outlined e) stepped.result c.args.list.now stepped.new.1.1.1.1.1.1.0) edges stepped.ensures)
+    (subst (λ (e : Edges). WalkedThrough d (outlined e) stepped.result c.args.list.now stepped.new.list) edges stepped.ensures)

@@ -7,7 +7,7 @@ pub step_through-requires : goal.step_through-requires
 step_through-requires c = (c.requires.0, c.on_screen.ensures.yes c.if-on_screen.true, c.requires.2)
 
 pub returns-then-on_screen : goal.returns-then-on_screen
-returns-then-on_screen c = c.step_Through.ensures
+returns-then-on_screen c = c.step_through.ensures
 
 pub returns : goal.returns
 returns c =

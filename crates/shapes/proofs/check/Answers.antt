@@ -38,7 +38,7 @@ overflow_add-place c = omega arith
 pub overflow_add-at : goal.overflow_add-at
 overflow_add-at c =
     let l = c.loop-place in
-    omega (arith, place_room c.args.size c.args.list.now l.place c.loop-place-test.true, c.well-formed.0.0)
+    omega (arith, place_room c.args.size c.args.list.now l.place c.loop-place-test.true, c.well_formed.0.0)
 
 pub loop-place-smaller : goal.loop-place-smaller
 loop-place-smaller c = omega arith

@@ -1,6 +1,6 @@
 -- `shapes::check` meets its contract: the words passed are right, and the first that are not end it.
 use mathlib.Core.Path.{refl, sym, subst}
-use Prim.Native.Nat.{ℕ, ◌-◌}
+use Prim.Native.Nat.{ℕ}
 use native.Mathlib.Omega.{arith}
 use borrow.Author.Count.{below_more}
 use Rattle.shapes.specs.Shapes.{words_from, words_at, RightWords}

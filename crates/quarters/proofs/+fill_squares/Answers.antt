@@ -2,12 +2,10 @@
 -- a single tile, has no other; and any other has the touched tiles of its four quarters. An edge that has the square on its inner side has its quarters there.
 use mathlib.Core.Path.{◌≡◌, ap, sym, subst, ◌∙◌}
 use mathlib.Core.Bool.{Bool, ◌||◌}
-use mathlib.Core.Logic.{⊎_elim}
 use mathlib.Core.List.{List}
-use Prim.Native.Nat.{ℕ, ◌-◌, ◌<◌}
+use Prim.Native.Nat.{ℕ, ◌<◌}
 use native.Mathlib.Omega.{arith}
 use lib.Dec.{eqb}
-use borrow.Fn.Kinds.{In}
 use Rattle.walk.specs.Row.{outlined}
 use Rattle.quarters.specs.declared.Square.{Square}
 use Rattle.quarters.specs.Square.{InwardOn, TouchedIn, beside_of, Small}
@@ -15,8 +13,6 @@ use Rattle.quarters.specs.Map.{WithOnes}
 use Rattle.quarters.proofs.Touched.{none_touched, all_touched, to_split}
 use Rattle.quarters.proofs.Ones.{ones_none, ones_iff, small_quarter, no_square, square_more, all_quarters}
 use Rattle.quarters.proofs.Inward.{inward_quarter}
-use Rattle.quarters.proofs.fill_squares.Reads as reads
-use Rattle.quarters.proofs.fill_squares.Kinds as kinds
 use Rattle.quarters.proofs.+fill_squares.Goals as goal
 use Rattle.quarters.proofs.+fill_squares.Goals.{After-beside-square, Else-is_whole-square, Joined-is_touched, then-is_touched+then-is_whole-square, then-is_touched+else-is_whole-square, else-is_touched}
 

@@ -1,6 +1,6 @@
 -- The proof of the cycle of calls {fill_squares}: the side's exponent falls. A square that is not touched has no touched tile; one that is wholly covered, or is
 -- a single tile, has no other; and any other has the touched tiles of its four quarters. An edge that has the square on its inner side has its quarters there.
-use Prim.Native.Nat.{ℕ, ◌-◌, ◌≤◌}
+use Prim.Native.Nat.{◌-◌, ◌≤◌}
 use Rattle.walk.specs.Row.{outlined}
 use Rattle.quarters.specs.Square.{TouchedInFirst}
 use Rattle.quarters.specs.Map.{WithOnes}

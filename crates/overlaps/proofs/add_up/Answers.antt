@@ -1,6 +1,6 @@
 -- `overlaps::add_up` meets its contract: the totals are those of the shapes passed.
 use mathlib.Core.Path.{◌≡◌, refl, sym, ap, subst, ◌∙◌}
-use Prim.Native.Nat.{ℕ, suc, ◌+◌, ◌-◌, ◌<◌}
+use Prim.Native.Nat.{ℕ, suc, ◌+◌, ◌<◌}
 use native.Mathlib.Omega.{arith}
 use Rattle.shapes.specs.Shapes.{count_of, words_from, shape_from, shape_at}
 use Rattle.shapes.proofs.Words.{place_room}

@@ -1,6 +1,6 @@
 -- `overlaps::add_up` meets its contract: the totals are those of the shapes passed.
 use mathlib.Core.Path.{◌≡◌, refl, sym, ap, subst, ◌∙◌}
-use Prim.Native.Nat.{ℕ, suc, ◌+◌, ◌-◌, ◌<◌}
+use Prim.Native.Nat.{ℕ, suc, ◌+◌, ◌<◌}
 use native.Mathlib.Omega.{arith}
 use Rattle.shapes.specs.Shapes.{count_of, words_from, shape_from, shape_at}
 use Rattle.shapes.proofs.Words.{place_room}
@@ -57,7 +57,7 @@ loop-place-preserved c =
     let e : suc l.place ≡ l.place + 1 = omega arith in (
       omega (arith, c.loop-place-test.true),
       omega (arith, l.invariant.1),
-      c.with-totals.auto.1.1.1.1.0 ∙ l.invariant.2,
+      c.with-totals.auto.touched ∙ l.invariant.2,
       subst (λ (n : ℕ). Sums d (shape_at 7 ws) n c.with-totals.result) e
           (sums_more d (shape_at 7 ws) c.requires.0 l.invariant.3
           (subst (λ (P : Type 0). P) (λ i. With d (shape i) (place i) l.totals c.with-totals.result) c.with-totals.ensures)),

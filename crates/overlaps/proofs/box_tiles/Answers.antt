@@ -13,13 +13,13 @@ use Rattle.overlaps.proofs.box_tiles.Goals as goal
 use Rattle.overlaps.proofs.box_tiles.Goals.{After-extent_of-2}
 
 product : (c : After-extent_of-2)
-    → TilesByBox c.args.screen c.args.shape (c.extent-of.result * c.extent_of-2.result)
+    → TilesByBox c.args.screen c.args.shape (c.extent_of.result * c.extent_of-2.result)
 product c =
     let d = c.args.screen in
     let shape = c.args.shape in
-    let spans = c.box-spans in
-    subst (λ (n : ℕ). TilesByBox d shape n) (λ i. sym c.extent-of.ensures i * sym c.extent_of-2.ensures i)
-    (box_product d c.requires.0 shape spans.result (subst (λ (t : Three). MeetingBox d t spans.result) c.three-of.ensures spans.ensures))
+    let spans = c.box_spans-spans in
+    subst (λ (n : ℕ). TilesByBox d shape n) (λ i. sym c.extent_of.ensures i * sym c.extent_of-2.ensures i)
+    (box_product d c.requires.0 shape spans.result (subst (λ (t : Three). MeetingBox d t spans.result) c.three_of.ensures spans.ensures))
 
 pub box_spans-spans-requires : goal.box_spans-spans-requires
 box_spans-spans-requires c =

@@ -58,11 +58,11 @@ returns c =
     let d = c.args.screen in
     let shape : Shape = c.args.shape in
     let q = c.square_of in
-    let cleared = c.set_bytes.new.0 in
+    let cleared = c.set_bytes.new.map in
     let tiles = c.wide.ensures ∙ c.tiles_of.ensures in
     let zeros = subst (λ (n : ℕ). BytesSet 0 0 n c.args.map.now cleared) tiles c.set_bytes.ensures in
     let edges = c.edges_of.ensures ∙ ap edges_of c.three_of-vertices.ensures in
-    let first = c.fill_squares.new.1.1.1.1.1.1.0 in
+    let first = c.fill_squares.new.map in
     let ones = subst (λ (e : Edges). WithOnes (TouchedInFirst d (outlined e) q.result 1) cleared first) edges c.fill_squares.ensures in
     mapped d c.requires.0 shape q.ensures zeros
     (ones_iff (λ t h. (h.0, (touches_as_triangle shape).1 h.1)) (λ t h. (h.0, (touches_as_triangle shape).0 h.1))

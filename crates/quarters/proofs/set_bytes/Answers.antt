@@ -1,5 +1,4 @@
 -- `quarters::set_bytes` meets its contract: the bytes from the start on and before i are set.
-use Prim.Native.Nat.{◌-◌}
 use native.Mathlib.Omega.{arith}
 use Rattle.quarters.proofs.Ones.{bytes_none, bytes_more, bytes_end}
 use Rattle.quarters.proofs.set_bytes.Goals as goal

@@ -46,4 +46,4 @@ returns c =
     let from = c.wide.ensures ∙ (λ i. row * columns i + q.column) in
     let to = c.wide-2.ensures ∙ (λ i. row * columns i + end i) in
     let set = c.set_bytes in
-    subst (λ (p : Type 0). p) (λ i. BytesSet 1 (from i) (to i) c.args.map.now set.new.0) set.ensures
+    subst (λ (p : Type 0). p) (λ i. BytesSet 1 (from i) (to i) c.args.map.now set.new.map) set.ensures

@@ -1,5 +1,4 @@
 -- `quarters::set_tiles` meets its contract: the bytes of the square's rows before `row` are written.
-use Prim.Native.Nat.{◌-◌}
 use native.Mathlib.Omega.{arith}
 use Rattle.quarters.proofs.Ones.{row_more, no_row, all_rows}
 use Rattle.quarters.proofs.set_tiles.Goals as goal

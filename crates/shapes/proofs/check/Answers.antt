@@ -1,6 +1,6 @@
 -- `shapes::check` meets its contract: the words passed are right, and the first that are not end it.
 use mathlib.Core.Path.{refl, sym, subst}
-use Prim.Native.Nat.{ℕ, ◌-◌}
+use Prim.Native.Nat.{ℕ}
 use native.Mathlib.Omega.{arith}
 use borrow.Author.Count.{below_more}
 use Rattle.shapes.specs.Shapes.{words_from, words_at, RightWords}
@@ -38,7 +38,7 @@ overflow_add-place c = omega arith
 pub overflow_add-at : goal.overflow_add-at
 overflow_add-at c =
     let l = c.loop-place in
-    omega (arith, place_room c.args.size c.args.list.now l.place c.loop-place-test.true, c.well-formed.0.0)
+    omega (arith, place_room c.args.size c.args.list.now l.place c.loop-place-test.true, c.well_formed.0.0)
 
 pub loop-place-smaller : goal.loop-place-smaller
 loop-place-smaller c = omega arith

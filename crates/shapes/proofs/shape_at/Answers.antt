@@ -20,8 +20,8 @@ vertex x y = record { x = x; y = y }
 
 -- ---- after all words are read
 
-abbrev words : tie.After-y3 → (ℕ → ℤ)
-words c = let s = c.before.before.before.before.before.before.before in words_from s.args.list.now s.args.at
+abbrev words : After-y3-1 → (ℕ → ℤ)
+words c = words_from c.args.list.now c.args.at
 
 kind : (c : After-y3-1) → kept w32 (get_or c.args.list.now c.args.at (pos 0)) ≡ words c 0
 kind c =

@@ -7,4 +7,4 @@ use Rattle.snap.proofs.scaled.Goals as goal
 
 pub returns : goal.returns
 unfolding of_bits
-returns c = product_scaled c.args.v (subst T (sym c.well-formed.0.1) tt)
+returns c = product_scaled c.args.v (subst T (sym c.well_formed.0.1) tt)

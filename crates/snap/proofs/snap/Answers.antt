@@ -1,5 +1,4 @@
 -- `snap::snap` meets its contract: the unit of a finite coordinate is its product by sixteen, rounded; no other has a unit.
-use borrow.Author.Tests.{not-true, not-false}
 use mathlib.Core.Path.{◌≡◌, subst, sym, ◌∙◌}
 use mathlib.Core.Bool.{Bool, true, false, not}
 use lib.Dec.{T}
@@ -7,11 +6,11 @@ use Rattle.snap.proofs.Product.{product_is_number, product-rounded}
 use Rattle.snap.proofs.Unit.{unit_of_is_right}
 use Rattle.snap.proofs.snap.Goals as goal
 
-is_finite : {r b : Bool} → r ≡ b → not r ≡ false → T b
-is_finite {r} e h = subst T (sym (not-false r h) ∙ e) tt
+is_finite : {r b : Bool} → r ≡ b → r ≡ true → T b
+is_finite e h = subst T (sym h ∙ e) tt
 
-is_not_finite : {r b : Bool} → r ≡ b → not r ≡ true → T (not b)
-is_not_finite {r} e h = subst (λ (t : Bool). T (not t)) (sym (not-true r h) ∙ e) tt
+is_not_finite : {r b : Bool} → r ≡ b → r ≡ false → T (not b)
+is_not_finite e h = subst (λ (t : Bool). T (not t)) (sym h ∙ e) tt
 
 pub returns-then-not-finite : goal.returns-then-not-finite
 returns-then-not-finite c =

@@ -5,14 +5,14 @@ use Rattle.snap.proofs.snap_line.Goals as goal
 pub returns-in_default : goal.returns-in_default
 returns-in_default c =
     let args = c.args in
-    line_first args.a args.b c.snap_vertex-first.ensures c.enum_told-1.given.1 c.vertex_number.ensures
+    line_first args.a args.b c.snap_vertex-first.ensures c.in_default.is c.vertex_number.ensures
 
 pub returns-in_default-second : goal.returns-in_default-second
 returns-in_default-second c =
     let args = c.args in
-    line_second args.a args.b c.snap_vertex-first.ensures c.first-1.given.1 c.snap_vertex-second.ensures c.enum_told-in_default-second-1.given.1 c.vertex_number-in_default-second.ensures
+    line_second args.a args.b c.snap_vertex-first.ensures c.in-Whole.is c.snap_vertex-second.ensures c.in_default-second.is c.vertex_number-in_default-second.ensures
 
 pub returns : goal.returns
 returns c =
     let args = c.args in
-    line_whole args.a args.b c.snap_vertex-first.ensures c.first-1.given.1 c.snap_vertex-second.ensures c.second-1.given.1
+    line_whole args.a args.b c.snap_vertex-first.ensures c.in-Whole.is c.snap_vertex-second.ensures c.in-Whole-second.is

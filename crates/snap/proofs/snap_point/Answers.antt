@@ -4,8 +4,8 @@ use Rattle.snap.proofs.snap_point.Goals as goal
 
 pub returns-in_default : goal.returns-in_default
 returns-in_default c =
-    point_refused c.args.a c.snap_vertex-first.ensures c.enum_told-1.given.1 c.vertex_number.ensures
+    point_refused c.args.a c.snap_vertex-first.ensures c.in_default.is c.vertex_number.ensures
 
 pub returns : goal.returns
 returns c =
-    point_whole c.args.a c.snap_vertex-first.ensures c.first-1.given.1
+    point_whole c.args.a c.snap_vertex-first.ensures c.in-Whole.is

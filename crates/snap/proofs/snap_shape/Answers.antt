@@ -4,10 +4,10 @@ use Rattle.snap.specs.Shapes.{shape_of}
 use Rattle.snap.proofs.snap_shape.Goals as goal
 
 pub returns-in-Point : goal.returns-in-Point
-returns-in-Point c = c.snap_point.ensures ∙ ap shape_of (sym c.shape-1.given.1)
+returns-in-Point c = c.snap_point.ensures ∙ ap shape_of (sym c.in-Point.is)
 
 pub returns-in-Line : goal.returns-in-Line
-returns-in-Line c = c.snap_line.ensures ∙ ap shape_of (sym c.shape-in-Line-1.given.1)
+returns-in-Line c = c.snap_line.ensures ∙ ap shape_of (sym c.in-Line.is)
 
 pub returns-in-Triangle : goal.returns-in-Triangle
-returns-in-Triangle c = c.snap_triangle.ensures ∙ ap shape_of (sym c.shape-in-Triangle-1.given.1)
+returns-in-Triangle c = c.snap_triangle.ensures ∙ ap shape_of (sym c.in-Triangle.is)

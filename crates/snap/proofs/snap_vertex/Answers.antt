@@ -8,14 +8,14 @@ use Rattle.snap.proofs.snap_vertex.Goals as goal
 
 pub returns-in_default : goal.returns-in_default
 returns-in_default c =
-    x_refused c.args.vertex c.snap-first.ensures c.enum_told-1.given.1 c.number.ensures
+    x_refused c.args.vertex c.snap-first.ensures c.in_default.is c.number.ensures
 
 pub returns-in_default-second : goal.returns-in_default-second
 returns-in_default-second c =
-    y_refused c.args.vertex c.snap-first.ensures c.first-1.given.1 c.snap-second.ensures c.enum_told-in_default-second-1.given.1 c.number-in_default-second.ensures
+    y_refused c.args.vertex c.snap-first.ensures c.in-Unit.is c.snap-second.ensures c.in_default-second.is c.number-in_default-second.ensures
 
 pub returns : goal.returns
 returns c =
-    let x : kept w32 c.first-1.given.0.0 ≡ c.first-1.given.0.0 = search rules in
-    let y : kept w32 c.second-1.given.0.0 ≡ c.second-1.given.0.0 = search rules in
-    rw (x, y) (both_units c.args.vertex c.snap-first.ensures c.first-1.given.1 c.snap-second.ensures c.second-1.given.1)
+    let x : kept w32 c.in-Unit.x ≡ c.in-Unit.x = search rules in
+    let y : kept w32 c.in-Unit-second.y ≡ c.in-Unit-second.y = search rules in
+    rw (x, y) (both_units c.args.vertex c.snap-first.ensures c.in-Unit.is c.snap-second.ensures c.in-Unit-second.is)

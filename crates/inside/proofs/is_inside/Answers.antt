@@ -20,12 +20,12 @@ use Rattle.inside.proofs.is_inside.Goals as goal
 use Rattle.inside.proofs.is_inside.Goals.{After-edges_of-edges, After-three_of-inner}
 
 -- the vertices of a shape in range are
-all_placed : {shape : Shape} {v : Three} → v ≡ three shape → InRange shape → AllPlaced v
-all_placed {shape} e h = subst AllPlaced (sym e) (three-placed shape h)
+all_placed : (shape : Shape) {v : Three} → v ≡ three shape → InRange shape → AllPlaced v
+all_placed shape e h = subst AllPlaced (sym e) (three-placed shape h)
 
 -- the edges are those of the second shape, and the box is around it
 outlined : (c : After-edges_of-edges) → Outline c.edges_of-edges.result
-outlined c = subst Outline (sym c.edges_of-edges.ensures) (outline (all_placed c.three_of-outer.ensures c.requires.1))
+outlined c = subst Outline (sym c.edges_of-edges.ensures) (outline (all_placed c.args.second c.three_of-outer.ensures c.requires.1))
 
 around : (c : After-edges_of-edges) → c.bounds_of-around.result ≡ bounds (starts c.edges_of-edges.result)
 around c = c.bounds_of-around.ensures ∙ ap (λ (e : Edges). bounds (starts e)) (sym c.edges_of-edges.ensures)
@@ -47,12 +47,12 @@ by_three t =
     rw t.three_of-inner.ensures (inside_by_three a.first a.second)
 
 pub edges_of-edges-requires : goal.edges_of-edges-requires
-edges_of-edges-requires c = all_placed c.three_of-outer.ensures c.requires.1
+edges_of-edges-requires c = all_placed c.args.second c.three_of-outer.ensures c.requires.1
 
 pub has_point-a-requires : goal.has_point-a-requires
 has_point-a-requires c =
     let t = (goal.at.has_point-a-requires c).After-edges_of-edges in
-    (outlined t, around t, (all_placed c.three_of-inner.ensures c.requires.0).a)
+    (outlined t, around t, (all_placed c.args.first c.three_of-inner.ensures c.requires.0).a)
 
 pub returns-then-not-a : goal.returns-then-not-a
 returns-then-not-a c =
@@ -62,7 +62,7 @@ returns-then-not-a c =
 pub has_point-b-requires : goal.has_point-b-requires
 has_point-b-requires c =
     let t = (goal.at.has_point-b-requires c).After-edges_of-edges in
-    (outlined t, around t, (all_placed c.three_of-inner.ensures c.requires.0).b)
+    (outlined t, around t, (all_placed c.args.first c.three_of-inner.ensures c.requires.0).b)
 
 pub returns-then-not-b : goal.returns-then-not-b
 returns-then-not-b c =
@@ -72,7 +72,7 @@ returns-then-not-b c =
 pub has_point-requires : goal.has_point-requires
 has_point-requires c =
     let t = (goal.at.has_point-requires c).After-edges_of-edges in
-    (outlined t, around t, (all_placed c.three_of-inner.ensures c.requires.0).c)
+    (outlined t, around t, (all_placed c.args.first c.three_of-inner.ensures c.requires.0).c)
 
 pub returns : goal.returns
 returns c =

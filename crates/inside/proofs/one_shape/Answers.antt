@@ -20,7 +20,7 @@ pub returns-then-list-ne-WORDS : goal.returns-then-list-ne-WORDS
 returns-then-list-ne-WORDS c = says_no (other_length _ c.if-list-ne-WORDS.true)
 
 pub returns-in_default : goal.returns-in_default
-returns-in_default c = ?
+returns-in_default c = let wrong = rw c.in_default.is at c.check-checked.ensures in says_no (λ o. wrong o.right)
 
 pub returns : goal.returns
 returns c =

@@ -18,44 +18,33 @@ part : {z y d : ℤ} → InUnits z → Within 262144 y → Within 524288 d
     → Is (kept w64 (kept w64 (kept w32 z) -ℤ kept w64 y) *ℤ kept w64 d) ((z -ℤ y) *ℤ d) 274877906944
 part p q r = is_mul (is_kept w64 tt (way p q)) (is_kept w64 tt (is_within r))
 
--- the states that the first and the second product start from
-abbrev begun : tie.After-struct-told2 → tie.Start
-begun c = c.before.before.before
-
-abbrev first : tie.After-struct-told4 → tie.Start
-first c = begun c.before.before.before.before
-
-abbrev second : tie.After-struct-told7 → tie.After-struct-told4
-second c = c.before.before.before.before.before.before
-
 pub overflow_cast-value : goal.overflow_cast-value
-overflow_cast-value c = is_fits tt (is_kept w32 tt (unit (begun (goal.at.overflow_cast-value c).After-struct_told-2-1).requires.1.x))
+overflow_cast-value c = is_fits tt (is_kept w32 tt (unit c.requires.1.x))
 
 pub overflow_sub-value : goal.overflow_sub-value
-overflow_sub-value c = let p = (begun (goal.at.overflow_sub-value c).After-struct_told-2-1).requires in is_fits tt (way p.1.x p.0.x)
+overflow_sub-value c = let p = c.requires in is_fits tt (way p.1.x p.0.x)
 
 pub overflow_mul-value : goal.overflow_mul-value
-overflow_mul-value c = let p = (first (goal.at.overflow_mul-value c).After-struct_told-4-1).requires in is_fits tt (part p.1.x p.0.x p.0.dy)
+overflow_mul-value c = let p = c.requires in is_fits tt (part p.1.x p.0.x p.0.dy)
 
 pub overflow_cast-value-2 : goal.overflow_cast-value-2
-overflow_cast-value-2 c = is_fits tt (is_kept w32 tt (unit (first (goal.at.overflow_cast-value-2 c).After-struct_told-4-1).requires.1.y))
+overflow_cast-value-2 c = is_fits tt (is_kept w32 tt (unit c.requires.1.y))
 
 pub overflow_sub-value-2 : goal.overflow_sub-value-2
-overflow_sub-value-2 c = let p = (first (goal.at.overflow_sub-value-2 c).After-struct_told-4-1).requires in is_fits tt (way p.1.y p.0.y)
+overflow_sub-value-2 c = let p = c.requires in is_fits tt (way p.1.y p.0.y)
 
 pub overflow_mul-value-2 : goal.overflow_mul-value-2
-overflow_mul-value-2 c = let p = (first (second (goal.at.overflow_mul-value-2 c).After-struct_told-7-1)).requires in is_fits tt (part p.1.y p.0.y p.0.dx)
+overflow_mul-value-2 c = let p = c.requires in is_fits tt (part p.1.y p.0.y p.0.dx)
 
 pub overflow_sub-value-3 : goal.overflow_sub-value-3
 overflow_sub-value-3 c =
-    let p = (first (second (goal.at.overflow_sub-value-3 c).After-struct_told-7-1)).requires in
+    let p = c.requires in
     is_fits tt (is_sub (is_kept w64 tt (part p.1.x p.0.x p.0.dy)) (is_kept w64 tt (part p.1.y p.0.y p.0.dx)))
 
 pub returns : goal.returns
 returns c =
-    let s = first (second (goal.at.returns c).After-struct_told-7-1) in
-    let p = s.pre in
-    let third = is_field w64 s.args.edge.third c.struct_told-7-1.given.1.1.1.1.0.1 in
+    let p = c.requires in
+    let third = is_field w64 c.args.edge.third c.struct_told-7-1.given.1.1.1.1.0.1 in
     let value =
     is_kept w64 tt (is_sub (is_kept w64 tt (part p.1.x p.0.x p.0.dy)) (is_kept w64 tt (part p.1.y p.0.y p.0.dx))) in
     says_same (λ i. outer (third.same i) (record { least = value.same i; greatest = value.same i })) (outer_says _ _)

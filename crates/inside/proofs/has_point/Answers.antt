@@ -1,6 +1,5 @@
 -- `inside::has_point` meets its contract: a point that is not in the box, or beyond an edge, is none of the shape; another is.
 use mathlib.Core.Path.{sym, subst}
-use borrow.Author.Tests.{not-false}
 use Rattle.numbers.proofs.Says.{says_no, says_iff, says_not}
 use Rattle.touch.specs.declared.Bounds.{Bounds}
 use Rattle.touch.specs.Corner.{triangle}
@@ -26,13 +25,13 @@ pub beyond_edge-requires : goal.beyond_edge-requires
 beyond_edge-requires c = let p = c.requires in ((outline_range p.0).ab, p.2)
 
 pub returns-then-beyond_edge : goal.returns-then-beyond_edge
-returns-then-beyond_edge c = says_no (λ h. (passes (goal.at.returns-then-beyond_edge c).After-in_box h).ab (c.beyond_edge.ensures.yes c.if-beyond_edge.true))
+returns-then-beyond_edge c = says_no (λ h. (passes (goal.at.returns-then-beyond_edge c).Start h).ab (c.beyond_edge.ensures.yes c.if-beyond_edge.true))
 
 pub beyond_edge-requires-2 : goal.beyond_edge-requires-2
 beyond_edge-requires-2 c = let p = c.requires in ((outline_range p.0).bc, p.2)
 
 pub returns-then-beyond_edge-2 : goal.returns-then-beyond_edge-2
-returns-then-beyond_edge-2 c = says_no (λ h. (passes (goal.at.returns-then-beyond_edge-2 c).Else-not-in_box h).bc (c.beyond_edge-2.ensures.yes c.if-beyond_edge-2.true))
+returns-then-beyond_edge-2 c = says_no (λ h. (passes (goal.at.returns-then-beyond_edge-2 c).Start h).bc (c.beyond_edge-2.ensures.yes c.if-beyond_edge-2.true))
 
 pub beyond_edge-requires-3 : goal.beyond_edge-requires-3
 beyond_edge-requires-3 c = let p = c.requires in ((outline_range p.0).ca, p.2)
@@ -40,13 +39,13 @@ beyond_edge-requires-3 c = let p = c.requires in ((outline_range p.0).ca, p.2)
 pub returns : goal.returns
 returns c =
     let v = c.args.vertex in
-    let box = subst (λ (p : Bounds). InBox p v.x v.y) c.requires.1 (c.in-box.ensures.yes (not-false _ c.if1.false)) in
+    let box = subst (λ (p : Bounds). InBox p v.x v.y) c.requires.1 (c.in_box.ensures.yes c.if-not-in_box.false) in
     says_iff
     (λ n. (outline_passes v.x v.y c.requires.0).0 (record {
       box = box;
-      ab = c.beyond-edge.ensures.no c.if2.false;
-      bc = c.beyond-edge2.ensures.no c.if3.false;
+      ab = c.beyond_edge.ensures.no c.if-beyond_edge.false;
+      bc = c.beyond_edge-2.ensures.no c.if-beyond_edge-2.false;
       ca = n;
     }))
-    (λ h. (passes (goal.at.returns c).After-beyond_edge-arg-1 h).ca)
+    (λ h. (passes (goal.at.returns c).Start h).ca)
     (says_not c.beyond_edge-3.ensures)

@@ -5,17 +5,10 @@ use Rattle.touch.proofs.Sizes.{is_field}
 use Rattle.touch.proofs.Answers.{overlap, overlap_says, says_same}
 use Rattle.inside.proofs.in_box.Goals as goal
 
--- the state that the first half of the tests leaves, and that which they start from
-abbrev half : tie.After-struct-told8 → tie.After-struct-told4
-half c = let d = c.before.before.before.before in d.before.before.before.before
-
-abbrev begun : tie.After-struct-told4 → tie.Start
-begun c = let d = c.before.before.before.before in d.before.before.before.before
-
 pub returns : goal.returns
 returns c =
-    let p = (begun (half (goal.at.returns c).After-struct_told-8-1)).args.around in
-    let v = (begun (half (goal.at.returns c).After-struct_told-8-1)).args.vertex in
+    let p = c.args.around in
+    let v = c.args.vertex in
     let a = c.struct_told-7-1.given in
     let b = c.struct_told-8-1.given in
     let x = is_field w32 v.x b.0.1 in

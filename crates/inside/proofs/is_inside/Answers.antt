@@ -2,11 +2,11 @@
 use mathlib.Core.Path.{◌≡◌, sym, ap, subst, ◌∙◌}
 use mathlib.Core.Bool.{Bool}
 use mathlib.Core.Logic.{◌↔◌}
-use borrow.Author.Tests.{not-false}
 use Rattle.numbers.specs.Says.{Says}
 use Rattle.numbers.proofs.Says.{says_no, says_iff}
 use Rattle.shape.specs.declared.Vertex.{Vertex}
 use Rattle.shape.specs.declared.Shape.{Shape}
+use Rattle.shape.specs.Shape.{InRange}
 use Rattle.touch.specs.declared.Three.{Three}
 use Rattle.touch.specs.declared.Edges.{Edges}
 use Rattle.touch.specs.Corner.{three, triangle, bounds}
@@ -17,18 +17,15 @@ use Rattle.touch.proofs.Covering.{point_as_triangle}
 use Rattle.inside.specs.Inside.{Inside}
 use Rattle.inside.proofs.Means.{ThreeInside, inside_by_three}
 use Rattle.inside.proofs.is_inside.Goals as goal
-use Rattle.inside.proofs.is_inside.Goals.{After-edges_of-edges, After-three_of-inner, After-three_of-outer}
+use Rattle.inside.proofs.is_inside.Goals.{After-edges_of-edges, After-three_of-inner}
 
--- the vertices of both shapes are in range
-outer-placed : (c : After-three_of-outer) → AllPlaced c.three_of-outer.result
-outer-placed c = subst AllPlaced (sym c.three_of-outer.ensures) (three-placed c.args.second c.requires.1)
-
-inner-placed : (c : After-three_of-inner) → AllPlaced c.three_of-inner.result
-inner-placed c = subst AllPlaced (sym c.three_of-inner.ensures) (three-placed c.args.first c.requires.0)
+-- the vertices of a shape in range are
+all_placed : (shape : Shape) {v : Three} → v ≡ three shape → InRange shape → AllPlaced v
+all_placed shape e h = subst AllPlaced (sym e) (three-placed shape h)
 
 -- the edges are those of the second shape, and the box is around it
 outlined : (c : After-edges_of-edges) → Outline c.edges_of-edges.result
-outlined c = subst Outline (sym c.edges_of-edges.ensures) (outline (outer-placed c.UP-After-three_of-outer))
+outlined c = subst Outline (sym c.edges_of-edges.ensures) (outline (all_placed c.args.second c.three_of-outer.ensures c.requires.1))
 
 around : (c : After-edges_of-edges) → c.bounds_of-around.result ≡ bounds (starts c.edges_of-edges.result)
 around c = c.bounds_of-around.ensures ∙ ap (λ (e : Edges). bounds (starts e)) (sym c.edges_of-edges.ensures)
@@ -50,28 +47,37 @@ by_three t =
     rw t.three_of-inner.ensures (inside_by_three a.first a.second)
 
 pub edges_of-edges-requires : goal.edges_of-edges-requires
-edges_of-edges-requires c = outer-placed (goal.at.edges_of-edges-requires c).After-three_of-outer
+edges_of-edges-requires c = all_placed c.args.second c.three_of-outer.ensures c.requires.1
 
 pub has_point-a-requires : goal.has_point-a-requires
-has_point-a-requires c = (outlined (goal.at.has_point-a-requires c).After-three_of-inner, around (goal.at.has_point-a-requires c).After-three_of-inner, (inner-placed (goal.at.has_point-a-requires c).After-has_point-arg-1).a)
+has_point-a-requires c =
+    let t = (goal.at.has_point-a-requires c).After-edges_of-edges in
+    (outlined t, around t, (all_placed c.args.first c.three_of-inner.ensures c.requires.0).a)
 
 pub returns-then-not-a : goal.returns-then-not-a
 returns-then-not-a c =
-    says_no (λ i. (told (goal.at.returns-then-not-a c).After-has_point-arg-1 c.three-of2.result.a _ c.has_point-a.ensures).no c.if-not-a.true ((by_three (goal.at.returns-then-not-a c).After-has_point-arg-1).1 i).0)
+    let t = (goal.at.returns-then-not-a c).After-three_of-inner in
+    says_no (λ i. (told t c.three_of-inner.result.a _ c.has_point-a.ensures).no c.if-not-a.true ((by_three t).1 i).0)
 
 pub has_point-b-requires : goal.has_point-b-requires
-has_point-b-requires c = (outlined (goal.at.has_point-b-requires c).After-has_point-arg-1, around (goal.at.has_point-b-requires c).After-has_point-arg-1, (inner-placed (goal.at.has_point-b-requires c).After-has_point-a).b)
+has_point-b-requires c =
+    let t = (goal.at.has_point-b-requires c).After-edges_of-edges in
+    (outlined t, around t, (all_placed c.args.first c.three_of-inner.ensures c.requires.0).b)
 
 pub returns-then-not-b : goal.returns-then-not-b
 returns-then-not-b c =
-    says_no (λ i. (told (goal.at.returns-then-not-b c).After-has_point-a c.three-of2.result.b _ c.has_point-b.ensures).no c.if-not-b.true ((by_three (goal.at.returns-then-not-b c).After-has_point-a).1 i).1)
+    let t = (goal.at.returns-then-not-b c).After-three_of-inner in
+    says_no (λ i. (told t c.three_of-inner.result.b _ c.has_point-b.ensures).no c.if-not-b.true ((by_three t).1 i).1)
 
 pub has_point-requires : goal.has_point-requires
-has_point-requires c = (outlined (goal.at.has_point-requires c).After-has_point-a, around (goal.at.has_point-requires c).After-has_point-a, (inner-placed (goal.at.has_point-requires c).Else-not-a).c)
+has_point-requires c =
+    let t = (goal.at.has_point-requires c).After-edges_of-edges in
+    (outlined t, around t, (all_placed c.args.first c.three_of-inner.ensures c.requires.0).c)
 
 pub returns : goal.returns
 returns c =
-    let inner : Three = c.three-of2.result in
-    let a = (told (goal.at.returns c).Else-not-a inner.a _ c.has-point.ensures).yes (not-false _ c.if1.false) in
-    let b = (told (goal.at.returns c).Else-not-a inner.b _ c.has-point2.ensures).yes (not-false _ c.if2.false) in
-    says_iff (λ h. (by_three (goal.at.returns c).Else-not-a).0 (a, b, h)) (λ i. ((by_three (goal.at.returns c).Else-not-a).1 i).2) (told (goal.at.returns c).Else-not-a inner.c _ c.has_point.ensures)
+    let t = (goal.at.returns c).After-three_of-inner in
+    let inner : Three = c.three_of-inner.result in
+    let a = (told t inner.a _ c.has_point-a.ensures).yes c.if-not-a.false in
+    let b = (told t inner.b _ c.has_point-b.ensures).yes c.if-not-b.false in
+    says_iff (λ h. (by_three t).0 (a, b, h)) (λ i. ((by_three t).1 i).2) (told t inner.c _ c.has_point.ensures)

@@ -20,9 +20,9 @@ pub returns-then-list-ne-WORDS : goal.returns-then-list-ne-WORDS
 returns-then-list-ne-WORDS c = says_no (other_length _ c.if-list-ne-WORDS.true)
 
 pub returns-in_default : goal.returns-in_default
-returns-in_default c = let wrong = rw c.enum_told-in_default-1.given.1 at c.check-checked.ensures in says_no (λ o. wrong o.right)
+returns-in_default c = let wrong = rw c.in_default.is at c.check-checked.ensures in says_no (λ o. wrong o.right)
 
 pub returns : goal.returns
 returns c =
-    let right = rw c.enum_told-1.given.1 at c.check-checked.ensures in
+    let right = rw c.in-Right.is at c.check-checked.ensures in
     says_yes (of_seven_words _ c.if-list-ne-WORDS.false right.0)

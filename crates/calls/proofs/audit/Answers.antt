@@ -4,7 +4,7 @@ use Rattle.calls.specs.Tables.{damaged, done}
 use Rattle.calls.proofs.audit.Goals as goal
 
 pub returns-in_default : goal.returns-in_default
-returns-in_default c = damaged (rw c.enum_told-in_default-1.given.1 at c.audit-audited.ensures) refl
+returns-in_default c = damaged (rw c.in_default.is at c.audit-audited.ensures) refl
 
 pub returns : goal.returns
-returns c = done (rw c.enum_told-1.given.1 at c.audit-audited.ensures).0 refl
+returns c = done (rw c.in-Sound.is at c.audit-audited.ensures).0 refl

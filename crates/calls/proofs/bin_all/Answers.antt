@@ -65,11 +65,11 @@ loop-at-preserved c =
     let ws = c.args.list.now in
     let shape = c.shape_at-shape.ensures ∙ ap (λ (k : ℕ). shape_from (words_from ws k)) l.invariant.0 in
     let id = c.id_from-id.ensures ∙ ap id_from (kept_is w32 (words_from ws l.at 7) c.id_from-arg-1.given) ∙ ap (λ (k : ℕ). id_from (words_from ws k 7)) l.invariant.0 in
-    let says = subst (λ (P : Type 0). P) (λ i. BinNumber l.pool (shape i) (id i) c.bin_sound-number.result c.bin_sound-number.new.0) c.bin_sound-number.ensures in (
+    let says = subst (λ (P : Type 0). P) (λ i. BinNumber l.pool (shape i) (id i) c.bin_sound-number.result c.bin_sound-number.new.pool) c.bin_sound-number.ensures in (
       omega (arith, l.invariant.0),
       omega (arith, in_list (goal.at.loop-at-preserved c).In-loop-at),
-      c.bin_sound-number.auto.0 ∙ l.invariant.2,
-      c.bin_sound-number.auto.1.1.1.1.0 ∙ l.invariant.3,
+      c.bin_sound-number.auto.pool ∙ l.invariant.2,
+      c.bin_sound-number.auto.touched ∙ l.invariant.3,
       along_more _ _ _ _ l.invariant.4 (omega (arith, in_list (goal.at.loop-at-preserved c).In-loop-at, c.requires.3, l.invariant.4.long)) says,
     )
 

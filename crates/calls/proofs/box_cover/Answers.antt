@@ -5,10 +5,10 @@ use Rattle.calls.proofs.box_cover.Goals as goal
 
 pub returns-in_default : goal.returns-in_default
 returns-in_default c =
-    let told = c.enum_told-1.given.1 in
+    let told = c.in_default.is in
     refused _ (rw told at c.ask-asked.ensures) (c.not_asked.ensures ∙ ap not_asked told)
 
 pub returns : goal.returns
 returns c =
-    let told = rw c.asked-1.given.1 at c.ask-asked.ensures in
+    let told = rw c.in-Asked.is at c.ask-asked.ensures in
     done told.0 _ (rw told.1 at c.box_cover.ensures) refl

@@ -3,7 +3,7 @@ use mathlib.Core.Path.{refl}
 use Rattle.calls.proofs.not_asked.Goals as goal
 
 pub returns-in-Asked : goal.returns-in-Asked
-returns-in-Asked c = rw c.enum_told-1.given.1 refl
+returns-in-Asked c = rw c.in-Asked.is refl
 
 pub returns-in-Refused : goal.returns-in-Refused
-returns-in-Refused c = rw c.asked-1.given.1 refl
+returns-in-Refused c = rw c.in-Refused.is refl

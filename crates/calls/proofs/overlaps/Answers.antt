@@ -16,15 +16,15 @@ returns-then-not-allowed c = bad_screen (c.allowed.ensures.no c.if-not-allowed.t
 
 pub returns-in_default : goal.returns-in_default
 returns-in_default c =
-    bad_list (allowed-screen (goal.at.returns-in_default c).After-check-checked) (rw c.enum_told-1.given.1 at c.check-checked.ensures) c.not_counted-in_default.ensures
+    bad_list (allowed-screen (goal.at.returns-in_default c).After-check-checked) (rw c.in_default.is at c.check-checked.ensures) c.not_counted-in_default.ensures
 
 pub totals_of-totals-requires : goal.totals_of-totals-requires
 totals_of-totals-requires c =
-    let told = rw c.checked-1.given.1 at c.check-checked.ensures in
+    let told = rw c.in-Right.is at c.check-checked.ensures in
     (allowed-screen (goal.at.totals_of-totals-requires c).After-check-checked, told.0, told.1)
 
 pub returns : goal.returns
 returns c =
-    let told = rw c.checked-1.given.1 at c.check-checked.ensures in
+    let told = rw c.in-Right.is at c.check-checked.ensures in
     done (allowed-screen (goal.at.returns c).After-check-checked) told.0 _
     (subst (λ (n : ℕ). TotalsOf c.args.screen (shape_at 7 c.args.list.now) n c.totals_of-totals.result) told.1 c.totals_of-totals.ensures) refl

@@ -9,19 +9,19 @@ use Rattle.calls.proofs.Audits.{told-damaged, told_sound, past-tiles, a_tile, am
 use Rattle.calls.proofs.release.Goals as goal
 
 pub returns-in_default : goal.returns-in_default
-returns-in_default c = damaged (told-damaged c.enum_told-1.given.1 c.audit-audited.ensures) refl refl
+returns-in_default c = damaged (told-damaged c.in_default.is c.audit-audited.ensures) refl refl
 
 pub returns-then-header-tile : goal.returns-then-header-tile
-returns-then-header-tile c = let k = told_sound c.audited-1.given.1 c.audit-audited.ensures in no_tile k.0 (past-tiles k c.if-header-tile.true) refl refl
+returns-then-header-tile c = let k = told_sound c.in-Sound.is c.audit-audited.ensures in no_tile k.0 (past-tiles k c.if-header-tile.true) refl refl
 
 pub release-blocks-requires : goal.release-blocks-requires
-release-blocks-requires c = let k = told_sound c.audited.given.1 c.audit.ensures in among k c.wide.ensures c.if1.false
+release-blocks-requires c = let k = told_sound c.in-Sound.is c.audit-audited.ensures in among k c.wide.ensures c.if-header-tile.false
 
 pub returns : goal.returns
 returns c =
-    let k = told_sound c.audited.given.1 c.audit.ensures in
+    let k = told_sound c.in-Sound.is c.audit-audited.ensures in
     let s = c.args in
-    let l = c.if1.false in
+    let l = c.if-header-tile.false in
     let r = c.release-blocks.ensures in
     let blocks =
     r.given ∙ ap (λ (L : Layout). ceil (tile_word L s.pool.now s.tile.0 0) L.ids) k.1.layout ∙ ap (λ (q : ℕ). ceil q (layout_of s.pool.now).ids) (entries_are k l) in

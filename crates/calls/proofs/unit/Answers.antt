@@ -7,9 +7,9 @@ use borrow.Author.Rules.{rules}
 use Rattle.calls.proofs.unit.Goals as goal
 
 pub returns-in_default : goal.returns-in_default
-returns-in_default c = unit_refused c.snap-snapped.ensures c.enum_told-1.given.1 c.number.ensures
+returns-in_default c = unit_refused c.snap-snapped.ensures c.in_default.is c.number.ensures
 
 pub returns : goal.returns
 returns c =
-    let z : kept w32 c.snapped-1.given.0.0 ≡ c.snapped-1.given.0.0 = search rules in
-    rw z (unit_answered c.snap-snapped.ensures c.snapped-1.given.1)
+    let z : kept w32 c.in-Unit.unit ≡ c.in-Unit.unit = search rules in
+    rw z (unit_answered c.snap-snapped.ensures c.in-Unit.is)

@@ -1,6 +1,6 @@
 -- `inside::is_inside` meets its contract: the three vertices are all that a shape has, some of them repeated, and the shape of the edges is the second.
 use mathlib.Core.Path.{◌≡◌, sym, ap, subst, ◌∙◌}
-use mathlib.Core.Bool.{Bool}
+use mathlib.Core.Bool.{Bool, true}
 use mathlib.Core.Logic.{◌↔◌}
 use Rattle.numbers.specs.Says.{Says}
 use Rattle.numbers.proofs.Says.{says_no, says_iff}
@@ -79,5 +79,6 @@ returns c =
     let t = (goal.at.returns c).After-three_of-inner in
     let inner : Three = c.three_of-inner.result in
     let a = (told t inner.a _ c.has_point-a.ensures).yes c.if-not-a.false in
-    let b = (told t inner.b _ c.has_point-b.ensures).yes c.if-not-b.false in
+    let yes : c.has_point-b.result ≡ true = cc in
+    let b = (told t inner.b _ c.has_point-b.ensures).yes yes in
     says_iff (λ h. (by_three t).0 (a, b, h)) (λ i. ((by_three t).1 i).2) (told t inner.c _ c.has_point.ensures)

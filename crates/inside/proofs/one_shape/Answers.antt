@@ -25,4 +25,4 @@ returns-in_default c = let wrong = rw c.in_default.is at c.check-checked.ensures
 pub returns : goal.returns
 returns c =
     let right = rw c.in-Right.is at c.check-checked.ensures in
-    says_yes (of_seven_words _ c.if-list-ne-WORDS.false right.0)
+    says_yes (of_seven_words _ (omega arith) right.0)

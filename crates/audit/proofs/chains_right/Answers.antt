@@ -12,12 +12,12 @@ use Rattle.audit.proofs.chains_right.Goals.{After-walk}
 
 -- what the walk along the free blocks says, of the words of the header
 told : (c : After-walk) → let a = c.args in
-    WalkSays (layout_for a.layout) a.pool.now a.from a.blocks (header_word a.pool.now 5) 0 (header_word a.pool.now 4)
+    WalkSays (layout_for a.layout) a.pool.now a.from c.args.blocks (header_word a.pool.now 5) 0 (header_word a.pool.now 4)
     c.tiles_right.new.marks c.walk.new.marks c.walk.result
 unfolding header_word
 told c =
     let a = c.args in
-    of_free (layout_for a.layout) a.pool.now a.from a.blocks c.tiles_right.new.marks c.walk.new.marks c.walk.result refl
+    of_free (layout_for a.layout) a.pool.now a.from c.args.blocks c.tiles_right.new.marks c.walk.new.marks c.walk.result refl
     c.wide.ensures c.walk.ensures
 
 pub returns-then-not-tiles_right : goal.returns-then-not-tiles_right

@@ -1,5 +1,4 @@
 -- `audit::all_marked` says whether every block is marked: `all` says so of the blocks passed.
-use Prim.Native.Nat.{◌-◌}
 use native.Mathlib.Omega.{arith}
 use Rattle.numbers.proofs.Says.{says_iff}
 use Rattle.numbers.proofs.Deciding.{says_none, says_more, says_eq}

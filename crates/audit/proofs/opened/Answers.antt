@@ -14,18 +14,11 @@ use Rattle.audit.proofs.opened.Goals.{After-room_of, Else-not-allowed}
 screened : (c : Else-not-allowed) → Allowed (screen_of c.args.pool.now)
 screened c = rw c.screen_of.ensures at (c.allowed.ensures.yes c.if-not-allowed.false)
 
--- from where the room is asked for back to the header, and to the start
-abbrev to-header : tie.After-room-of → tie.After-header-of
-to-header c = c.before.before.before.before.before.before.before.before.before.before.before.before.before.before.before
-
-abbrev to_start : tie.After-room-of → tie.Start
-to_start c = (to-header c).before.before.before.before.before.before.before
-
 -- the room that is asked for is that of the header
-needed : (c : After-room_of) → let a = (to_start c).args in c.room_of.result ≡ room (layout_for a.layout) (tiles_of a.pool.now) (blocks_of a.pool.now)
+needed : (c : After-room_of) → let a = c.args in c.room_of.result ≡ room (layout_for a.layout) (tiles_of a.pool.now) (blocks_of a.pool.now)
 needed c =
-    let header = (to-header c).header_of.ensures in
-    c.room_of.ensures ∙ ap₂ (room (layout_for (to_start c).args.layout)) (c.wide-3.ensures ∙ header.tiles) (c.wide-4.ensures ∙ header.blocks)
+    let header = c.header_of-header.ensures in
+    c.room_of.ensures ∙ ap₂ (room (layout_for c.args.layout)) (c.wide-3.ensures ∙ header.tiles) (c.wide-4.ensures ∙ header.blocks)
 
 pub returns-then-pool-layout : goal.returns-then-pool-layout
 unfolding room start

@@ -1,6 +1,7 @@
 -- `audit::poison_in` counts the words that are poison: `found` is the count of the words passed.
 use mathlib.Core.Path.{◌≡◌, refl, ap}
-use Prim.Native.Nat.{ℕ, ◌+◌, ◌-◌, ◌≤◌}
+use mathlib.Core.List.{List}
+use Prim.Native.Nat.{ℕ, ◌+◌}
 use native.Mathlib.Omega.{arith}
 use lib.Dec.{eqb}
 use lib.ListN.{get_or}
@@ -11,8 +12,8 @@ use Rattle.audit.proofs.Poison.{poison_more}
 use Rattle.audit.proofs.poison_in.Goals as goal
 
 -- the words from the place on
-abbrev word : tie.At-loop invariant-loop decreases-loop → ℕ → ℕ
-word p i = get_or p.before.args.pool.now (p.before.args.at + i) 0
+abbrev word : List ℕ → (at : ℕ) → ℕ → ℕ
+word pool at i = get_or pool (at + i) 0
 
 pub loop-j-init : goal.loop-j-init
 loop-j-init c = (omega arith, refl)
@@ -31,8 +32,8 @@ overflow_cast-found c = tt
 
 pub overflow_add-found-in-loop-j : goal.overflow_add-found-in-loop-j
 overflow_add-found-in-loop-j c =
-    let more = poison_more edition (word (goal.at.overflow_add-found-in-loop-j c).At-loop-j) c.loop-j.j in
-    omega (arith, c.loop-j.invariant.1, more, passes≤ (c.loop-j.j + 1) (λ i. eqb (word (goal.at.overflow_add-found-in-loop-j c).At-loop-j i) edition.poison))
+    let more = poison_more edition (word c.args.pool.now c.args.at) c.loop-j.j in
+    omega (arith, c.loop-j.invariant.1, more, passes≤ (c.loop-j.j + 1) (λ i. eqb (word c.args.pool.now c.args.at i) edition.poison))
 
 pub overflow_add-j : goal.overflow_add-j
 overflow_add-j c = omega arith
@@ -41,9 +42,9 @@ pub loop-j-smaller : goal.loop-j-smaller
 loop-j-smaller c = omega arith
 
 pub loop-j-preserved : goal.loop-j-preserved
-loop-j-preserved c = (omega arith, omega (arith, c.loop-j.invariant.1, poison_more edition (word (goal.at.loop-j-preserved c).At-loop-j) c.loop-j.j))
+loop-j-preserved c = (omega arith, omega (arith, c.loop-j.invariant.1, poison_more edition (word c.args.pool.now c.args.at) c.loop-j.j))
 
 pub returns : goal.returns
 returns c =
     let end : c.loop-j.j ≡ c.args.count = omega arith in
-    omega (arith, c.loop-j.invariant.1, ap (poison_in edition (word (goal.at.returns c).At-loop-j)) end)
+    omega (arith, c.loop-j.invariant.1, ap (poison_in edition (word c.args.pool.now c.args.at)) end)

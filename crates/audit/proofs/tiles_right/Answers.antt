@@ -1,5 +1,5 @@
 -- `audit::tiles_right` says whether all tiles have their chains: those passed so far have, and their blocks are marked.
-use Prim.Native.Nat.{◌+◌, ◌-◌}
+use Prim.Native.Nat.{◌+◌}
 use mathlib.Core.Path.{◌≡◌, refl, ap}
 use native.Mathlib.Omega.{arith}
 use borrow.Author.Rules.{rules}

@@ -1,5 +1,4 @@
 -- `audit::walk` finds a chain right or broken: what is left of the walk is right exactly where the whole is (`Going`).
-use Prim.Native.Nat.{◌-◌}
 use Rattle.pool.specs.Editions.{layout_for}
 use Rattle.audit.specs.Chain.{Places, next}
 use Rattle.audit.specs.Walk.{block_word_from}

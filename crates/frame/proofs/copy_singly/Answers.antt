@@ -1,6 +1,5 @@
 -- `copy_singly`: after k words, writing the rest from there on gives what is promised; with none left, the words are that.
 use Rattle.frame.proofs.Pieces.{length_part, get_d_part}
-use Prim.Native.Nat.{◌-◌}
 use mathlib.Core.Path.{sym}
 use Rattle.pool.proofs.Putting.{write_start, write_step, write_end}
 use native.Mathlib.Omega.{arith}

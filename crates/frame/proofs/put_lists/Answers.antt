@@ -1,6 +1,6 @@
 -- `put_lists`: tile after tile its start is written and its list put behind the others; the last start is where the last list ends.
 use mathlib.Core.Path.{◌∙◌}
-use Prim.Native.Nat.{◌+◌, ◌-◌, ◌^◌, ◌≤◌, ◌<◌}
+use Prim.Native.Nat.{◌+◌, ◌^◌, ◌≤◌, ◌<◌}
 use native.Mathlib.Omega.{arith}
 use lib.ListN.{length, length-set}
 use Rattle.pool.specs.Editions.{layout_for}
@@ -39,7 +39,7 @@ put_list-next-requires c =
     (
     let more = lists_grow L T p (t + 1) T (omega (arith, c.loop-t-test.true)) in
     omega (arith, c.loop-t.invariant.listed.next_is, lists_longer L T p t, more, puts_long c.loop-t.invariant.listed, c.requires.tiles_in_bounds)) in
-    rw c.wide-all.ensures (G, room)
+    rw c.wide-all.ensures (record { among = G; tile_in_bounds = room })
 
 pub overflow_add-t : goal.overflow_add-t
 overflow_add-t c = omega (arith, c.loop-t-test.true)
@@ -70,5 +70,5 @@ shape_of-entries c = puts_long c.loop-t.invariant.listed
 
 pub returns : goal.returns
 returns c =
-    -- LEFT: clauses starts entries
-    frame_all c.loop-t.invariant _ _ c.wide-all.ensures c.narrow-2.ensures (omega (arith, c.loop-t-test.false))
+    let all = frame_all c.loop-t.invariant _ _ c.wide-all.ensures c.narrow-2.ensures (omega (arith, c.loop-t-test.false)) in
+    record { starts = all.0; entries = all.1 }

@@ -49,7 +49,7 @@ build_over_ci() {
         words+=(-L "dependency=$path")
     done
     mkdir -p out
-    rattle build --crate-name capi src/lib.rt "${words[@]}" --antt-project "$kit/rattle/logic/antt-project.json" --logic-built "$kit/logic_built" \
+    "$kit/bin/rattle" build --crate-name capi src/lib.rt "${words[@]}" --antt-project "$kit/rattle/logic/antt-project.json" --logic-built "$kit/logic_built" \
         --jobs 2 --links capi= --crate-type staticlib --toolchain "$kit/toolchain" --backend llvm "$@" -o out/libcapi.a
 }
 

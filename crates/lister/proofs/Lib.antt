@@ -1,4 +1,5 @@
 pub mod Writing
+pub mod Said
 pub mod Little
 pub mod Powers
 pub mod Numerals

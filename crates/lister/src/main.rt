@@ -40,6 +40,7 @@ fn list_words(pool: &[u32], out: &mut [u8]) -> usize
 }
 
 // Puts the text for these bytes at the start of `out`, and answers its length.
+#[tactic(auto, using(crate::proofs::Said::said_long))]
 fn list_bytes(bytes: &[u8], out: &mut [u8]) -> usize
     requires { 162000 ≤ length out.old }
     ensures within { IsPrefixLen result out.new }

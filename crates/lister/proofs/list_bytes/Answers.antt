@@ -3,14 +3,6 @@ use native.Mathlib.Omega.{arith}
 use Rattle.lister.proofs.Writing.{puts_all, puts_counts}
 use Rattle.lister.proofs.list_bytes.Goals as goal
 
-pub returns-then-bytes-gt-MOST_BYTES : goal.returns-then-bytes-gt-MOST_BYTES
-returns-then-bytes-gt-MOST_BYTES c =
-    let P = c.put_text.ensures in
-    record {
-      within = puts_counts P (omega arith);
-      text = record { long = λ l. puts_all P (omega arith); odd = λ l. absurd (omega arith); whole = λ l. absurd (omega arith) };
-    }
-
 pub returns-then-bytes-ne0 : goal.returns-then-bytes-ne0
 returns-then-bytes-ne0 c =
     let P = c.put_text-then-bytes-ne0.ensures in

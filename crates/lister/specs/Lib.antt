@@ -1,3 +1,5 @@
+pub mod Counts
+pub mod Digits
 pub mod Bytes
 pub mod Text
 pub mod Listing

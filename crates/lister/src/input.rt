@@ -1,7 +1,7 @@
 // Standard input, read into a buffer.
 ghost use Rattle.lister.specs.Answer.{Within};
 
-use libc::STDIN_FILENO;
+use std::io::Read;
 
 // What was read: so many bytes at the start of the buffer, or a part that is not told, since a read failed.
 #[derive(Clone, Copy)]
@@ -11,17 +11,14 @@ pub enum Input {
 }
 
 // Reads until the input ends, the buffer is full or a read fails.
-pub fn read_input(buffer: &mut [u8]) -> Input
+pub fn read_input<R: Read>(reader: &mut R, buffer: &mut [u8]) -> Input
     ensures { Within result buffer.new }
 {
     let mut done = 0;
     while done < buffer.len() {
-        let part = &mut buffer[done..];
-        let got = libc::read(STDIN_FILENO, part);
-        if got < 0 {
+        let Ok(more) = reader.read(&mut buffer[done..]) else {
             return Input::Failed;
-        }
-        let more = io::count(got, part);
+        };
         if more == 0 {
             return Input::Bytes(done);
         }

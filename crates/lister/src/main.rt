@@ -1,13 +1,14 @@
 #![tactic(auto)]
 // Lists a pool of little-endian words, read from standard input: a line for the screen, and one for each tile with entries. `specs/Answer.antt` says what is
 // written for any bytes.
+mod decimal;
 mod input;
 mod listing;
 mod text;
 mod words;
 
 ghost use Rattle.std.specs.Prelude.{◌≤◌, ◌<◌, length, take};
-ghost use Rattle.io.specs.Counts.{IsPrefixLen};
+ghost use Rattle.lister.specs.Counts.{IsPrefixLen};
 ghost use Rattle.lister.specs.Answer.{WordsSay, BytesSay, Within, InputSays};
 
 use crate::input::{Input, read_input};
@@ -15,7 +16,7 @@ use crate::listing::put_listing;
 use crate::text::put_text;
 use crate::words::words_from;
 use audit::Audited;
-use libc::{STDERR_FILENO, STDOUT_FILENO};
+use std::io;
 
 // The longest input that is listed, in bytes and in words.
 const MOST_BYTES: usize = 65536;
@@ -39,6 +40,7 @@ fn list_words(pool: &[u32], out: &mut [u8]) -> usize
 }
 
 // Puts the text for these bytes at the start of `out`, and answers its length.
+#[tactic(auto, using(crate::proofs::Said::said_long))]
 fn list_bytes(bytes: &[u8], out: &mut [u8]) -> usize
     requires { 162000 ≤ length out.old }
     ensures within { IsPrefixLen result out.new }
@@ -68,15 +70,13 @@ fn list_input(buffer: &[u8], input: Input, out: &mut [u8]) -> usize
 }
 
 // Writes the text for what it reads. Where that fails, a line on standard error says so.
-fn main() {
+fn main(rt: HostRuntime) -> io::Result<()> {
     let mut buffer = [0u8; MOST_BYTES + 1];
-    let input = read_input(&mut buffer);
+    let input = read_input(&mut rt.stdin(), &mut buffer);
     let mut out = [0u8; MOST_TEXT];
     let end = list_input(&buffer, input, &mut out);
-    if !io::write_all(STDOUT_FILENO, &out[..end]) {
-        io::write_all(
-            STDERR_FILENO,
-            b"lister: the listing was not written to its end\n",
-        );
+    if rt.write_all(&out[..end]).is_err() {
+        rt.eprintln("lister: the listing was not written to its end")?;
     }
+    Ok(())
 }

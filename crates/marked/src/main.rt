@@ -3,16 +3,16 @@
 // s = 4, then the cases of the screen 60 by 32, and then the pool case to its end. Writes for each marked case the tiles listed, those by corner and those by
 // box, with a star behind those that are wholly covered.
 use calls::{Answered, Found};
-use libc::STDOUT_FILENO;
 use screen::{Screen, Tile};
 use shape::{Shape, Vertex};
+use std::io;
 
-fn write(text: &[u8]) {
-    io::write_all(STDOUT_FILENO, text);
+fn write(rt: &impl Print, text: &[u8]) -> io::Result<()> {
+    rt.write_all(text)
 }
 
-fn write_number(n: u32) {
-    io::print_decimal(STDOUT_FILENO, n as u64);
+fn write_number(rt: &impl Print, n: u32) -> io::Result<()> {
+    rt.print(n)
 }
 
 fn at(x: i32, y: i32) -> Vertex {
@@ -20,59 +20,65 @@ fn at(x: i32, y: i32) -> Vertex {
 }
 
 // The tile's number, and a star behind it where the tile is wholly covered.
-fn write_starred(t: u32, whole: bool) {
-    write(b" ");
-    write_number(t);
+fn write_starred(rt: &impl Print, t: u32, whole: bool) -> io::Result<()> {
+    write(rt, b" ")?;
+    write_number(rt, t)?;
     if whole {
-        write(b"*");
+        write(rt, b"*")?;
     }
+    Ok(())
 }
 
 // The tile's number, where the answer is not apart.
-fn write_tile(answer: Answered, t: u32) {
+fn write_tile(rt: &impl Print, answer: Answered, t: u32) -> io::Result<()> {
     let cover = answer.cover;
     if touch::is_touched(cover) {
-        write_starred(t, touch::is_whole(cover));
+        write_starred(rt, t, touch::is_whole(cover))?;
     }
+    Ok(())
 }
 
 // The tiles that the shape touches, by corner.
-fn write_by_corner(screen: Screen, shape: Shape) {
+fn write_by_corner(rt: &impl Print, screen: Screen, shape: Shape) -> io::Result<()> {
     let mut t = 0;
     while t < 8 {
-        write_tile(calls::corner_cover(screen, Tile(t), shape), t);
+        write_tile(rt, calls::corner_cover(screen, Tile(t), shape), t)?;
         t += 1;
     }
+    Ok(())
 }
 
 // The tiles that the shape touches, by box.
-fn write_by_box(screen: Screen, shape: Shape) {
+fn write_by_box(rt: &impl Print, screen: Screen, shape: Shape) -> io::Result<()> {
     let mut t = 0;
     while t < 8 {
-        write_tile(calls::box_cover(screen, Tile(t), shape), t);
+        write_tile(rt, calls::box_cover(screen, Tile(t), shape), t)?;
         t += 1;
     }
+    Ok(())
 }
 
 // The tile's number, where its list begins with the id 7.
-fn write_found(found: Found, t: u32) {
+fn write_found(rt: &impl Print, found: Found, t: u32) -> io::Result<()> {
     if found.number == 0 {
         if found.id == 7 {
-            write_starred(t, found.whole);
+            write_starred(rt, t, found.whole)?;
         }
     }
+    Ok(())
 }
 
 // The tiles whose lists begin with the id 7.
-fn write_listed(pool: &[u32]) {
+fn write_listed(rt: &impl Print, pool: &[u32]) -> io::Result<()> {
     let mut t = 0;
     while t < 8 {
-        write_found(calls::read(pool, Tile(t), 0), t);
+        write_found(rt, calls::read(pool, Tile(t), 0), t)?;
         t += 1;
     }
+    Ok(())
 }
 
-fn run(name: &[u8], width: u32, shape: Shape) {
+fn run(rt: &impl Print, name: &[u8], width: u32, shape: Shape) -> io::Result<()> {
     let screen = Screen {
         width,
         height: 32,
@@ -82,22 +88,22 @@ fn run(name: &[u8], width: u32, shape: Shape) {
     let pool: &mut [u32] = &mut space;
     let opened = calls::open(pool, screen, 8);
     let binned = calls::bin(pool, shape, 7);
-    write(name);
-    write(b": open ");
-    write_number(opened);
-    write(b", bin ");
-    write_number(binned.number);
-    write(b", tiles ");
-    write_number(binned.tiles);
-    write(b", blocks ");
-    write_number(binned.blocks);
-    write(b"; listed");
-    write_listed(pool);
-    write(b"; corner");
-    write_by_corner(screen, shape);
-    write(b"; box");
-    write_by_box(screen, shape);
-    write(b"\n");
+    write(rt, name)?;
+    write(rt, b": open ")?;
+    write_number(rt, opened)?;
+    write(rt, b", bin ")?;
+    write_number(rt, binned.number)?;
+    write(rt, b", tiles ")?;
+    write_number(rt, binned.tiles)?;
+    write(rt, b", blocks ")?;
+    write_number(rt, binned.blocks)?;
+    write(rt, b"; listed")?;
+    write_listed(rt, pool)?;
+    write(rt, b"; corner")?;
+    write_by_corner(rt, screen, shape)?;
+    write(rt, b"; box")?;
+    write_by_box(rt, screen, shape)?;
+    write(rt, b"\n")
 }
 
 // A word of a pool, and 0 past its end.
@@ -106,39 +112,45 @@ fn word(pool: &[u32], i: usize) -> u32 {
 }
 
 // The eight words of the header.
-fn write_header(pool: &[u32]) {
-    write(b"header");
+fn write_header(rt: &impl Print, pool: &[u32]) -> io::Result<()> {
+    write(rt, b"header")?;
     let mut k = 0;
     while k < 8 {
-        write(b" ");
-        write_number(word(pool, k));
+        write(rt, b" ")?;
+        write_number(rt, word(pool, k))?;
         k += 1;
     }
-    write(b"\n");
+    write(rt, b"\n")
 }
 
 // Opens a pool with two blocks. Where that is refused, writes the number and answers false.
-fn opens(pool: &mut [u32], screen: Screen) -> bool {
+fn opens(rt: &impl Print, pool: &mut [u32], screen: Screen) -> io::Result<bool> {
     let number = calls::open(pool, screen, 2);
     if number == 0 {
-        return true;
+        return Ok(true);
     }
-    write(b"open ");
-    write_number(number);
-    write(b"\n");
-    false
+    write(rt, b"open ")?;
+    write_number(rt, number)?;
+    write(rt, b"\n")?;
+    Ok(false)
 }
 
-fn write_bin(pool: &mut [u32], name: &[u8], shape: Shape, id: u32) {
+fn write_bin(
+    rt: &impl Print,
+    pool: &mut [u32],
+    name: &[u8],
+    shape: Shape,
+    id: u32,
+) -> io::Result<()> {
     let binned = calls::bin(pool, shape, id);
-    write(name);
-    write(b": bin ");
-    write_number(binned.number);
-    write(b", tiles ");
-    write_number(binned.tiles);
-    write(b", blocks ");
-    write_number(binned.blocks);
-    write(b"\n");
+    write(rt, name)?;
+    write(rt, b": bin ")?;
+    write_number(rt, binned.number)?;
+    write(rt, b", tiles ")?;
+    write_number(rt, binned.tiles)?;
+    write(rt, b", blocks ")?;
+    write_number(rt, binned.blocks)?;
+    write(rt, b"\n")
 }
 
 // Whether two pools have the same words.
@@ -156,33 +168,34 @@ fn same(pool: &[u32], other: &[u32]) -> bool {
     true
 }
 
-fn write_same(pool: &[u32], other: &[u32], name: &[u8]) {
+fn write_same(rt: &impl Print, pool: &[u32], other: &[u32], name: &[u8]) -> io::Result<()> {
     if same(pool, other) {
-        write(b"every word as ");
+        write(rt, b"every word as ")?;
     } else {
-        write(b"some word not as ");
+        write(rt, b"some word not as ")?;
     }
-    write(name);
-    write(b"\n");
+    write(rt, name)?;
+    write(rt, b"\n")
 }
 
 // Each word of a pool that is not as in another, with its place.
-fn write_changed(pool: &[u32], other: &[u32]) {
+fn write_changed(rt: &impl Print, pool: &[u32], other: &[u32]) -> io::Result<()> {
     let mut i = 0;
     while i < pool.len() {
         if word(pool, i) != word(other, i) {
-            write(b"word ");
-            io::print_decimal(STDOUT_FILENO, i as u64);
-            write(b" not as opened: ");
-            write_number(word(pool, i));
-            write(b"\n");
+            write(rt, b"word ")?;
+            rt.print(i)?;
+            write(rt, b" not as opened: ")?;
+            write_number(rt, word(pool, i))?;
+            write(rt, b"\n")?;
         }
         i += 1;
     }
+    Ok(())
 }
 
 // The pool case: two blocks, a bin that takes one, a bin that needs three, and a release.
-fn pool_case() {
+fn pool_case(rt: &impl Print) -> io::Result<()> {
     let screen = Screen {
         width: 64,
         height: 32,
@@ -194,85 +207,109 @@ fn pool_case() {
     let opened: &mut [u32] = &mut first;
     let before: &mut [u32] = &mut second;
     let pool: &mut [u32] = &mut third;
-    if !opens(opened, screen) {
-        return;
+    if !opens(rt, opened, screen)? {
+        return Ok(());
     }
-    if !opens(before, screen) {
-        return;
+    if !opens(rt, before, screen)? {
+        return Ok(());
     }
-    if !opens(pool, screen) {
-        return;
+    if !opens(rt, pool, screen)? {
+        return Ok(());
     }
-    write_header(pool);
-    write_bin(pool, b"id 7 at (0, 0)", Shape::Point(at(0, 0)), 7);
+    write_header(rt, pool)?;
+    write_bin(rt, pool, b"id 7 at (0, 0)", Shape::Point(at(0, 0)), 7)?;
     write_bin(
+        rt,
         before,
         b"the same in another pool",
         Shape::Point(at(0, 0)),
         7,
-    );
-    write_header(pool);
-    write_bin(pool, b"id 9 at (256, 256)", Shape::Point(at(256, 256)), 9);
-    write_same(pool, before, b"before");
+    )?;
+    write_header(rt, pool)?;
+    write_bin(
+        rt,
+        pool,
+        b"id 9 at (256, 256)",
+        Shape::Point(at(256, 256)),
+        9,
+    )?;
+    write_same(rt, pool, before, b"before")?;
     let released = calls::release(pool, Tile(0));
-    write(b"release of tile 0: ");
-    write_number(released.number);
-    write(b", blocks ");
-    write_number(released.blocks);
-    write(b"\n");
+    write(rt, b"release of tile 0: ")?;
+    write_number(rt, released.number)?;
+    write(rt, b", blocks ")?;
+    write_number(rt, released.blocks)?;
+    write(rt, b"\n")?;
     let mark = calls::high_water(pool, Tile(0));
-    write(b"mark of tile 0: ");
-    write_number(mark.number);
-    write(b", entries ");
-    write_number(mark.entries);
-    write(b"\n");
-    write_changed(pool, opened);
+    write(rt, b"mark of tile 0: ")?;
+    write_number(rt, mark.number)?;
+    write(rt, b", entries ")?;
+    write_number(rt, mark.entries)?;
+    write(rt, b"\n")?;
+    write_changed(rt, pool, opened)
 }
 
-fn main() {
-    run(b"M1", 64, Shape::Point(at(0, 0)));
-    run(b"M2", 64, Shape::Point(at(256, 100)));
-    run(b"M3", 64, Shape::Point(at(256, 256)));
-    run(b"M4", 64, Shape::Point(at(1024, 10)));
-    run(b"M5", 64, Shape::Point(at(1025, 10)));
-    run(b"M6", 64, Shape::Line(at(100, 100), at(300, 100)));
-    run(b"M7", 64, Shape::Line(at(0, 0), at(512, 512)));
+fn main(rt: HostRuntime) -> io::Result<()> {
+    run(&rt, b"M1", 64, Shape::Point(at(0, 0)))?;
+    run(&rt, b"M2", 64, Shape::Point(at(256, 100)))?;
+    run(&rt, b"M3", 64, Shape::Point(at(256, 256)))?;
+    run(&rt, b"M4", 64, Shape::Point(at(1024, 10)))?;
+    run(&rt, b"M5", 64, Shape::Point(at(1025, 10)))?;
+    run(&rt, b"M6", 64, Shape::Line(at(100, 100), at(300, 100)))?;
+    run(&rt, b"M7", 64, Shape::Line(at(0, 0), at(512, 512)))?;
     run(
+        &rt,
         b"M8",
         64,
         Shape::Triangle(at(0, 0), at(512, 512), at(256, 256)),
-    );
+    )?;
     run(
+        &rt,
         b"M9",
         64,
         Shape::Triangle(at(0, 0), at(1024, 0), at(0, 512)),
-    );
+    )?;
     run(
+        &rt,
         b"M10",
         64,
         Shape::Triangle(at(0, 0), at(0, 512), at(1024, 0)),
-    );
+    )?;
     run(
+        &rt,
         b"M11",
         64,
         Shape::Triangle(at(700, 0), at(1024, 0), at(1024, 300)),
-    );
+    )?;
     run(
+        &rt,
         b"M12",
         64,
         Shape::Triangle(at(-1000, -1000), at(5000, -1000), at(-1000, 5000)),
-    );
-    run(b"60 by 32, past the glass", 60, Shape::Point(at(1000, 10)));
-    run(b"60 by 32, at the glass", 60, Shape::Point(at(960, 10)));
+    )?;
     run(
+        &rt,
+        b"60 by 32, past the glass",
+        60,
+        Shape::Point(at(1000, 10)),
+    )?;
+    run(
+        &rt,
+        b"60 by 32, at the glass",
+        60,
+        Shape::Point(at(960, 10)),
+    )?;
+    run(
+        &rt,
         b"60 by 32, to the end of the glass",
         60,
         Shape::Triangle(at(0, 0), at(1920, 0), at(0, 1024)),
-    );
+    )?;
     run(
+        &rt,
         b"60 by 32, one unit less",
         60,
         Shape::Triangle(at(0, 0), at(1919, 0), at(0, 1024)),
-    );
-    pool_case();
+    )?;
+    pool_case(&rt)
 }

@@ -1,49 +1,55 @@
 #![tactic(auto)]
 // Document 01's pool case: a screen of 64 by 32, s = 4, two blocks, in a slice of 108 words that held something else. Writes what each opening
 // answers, and every word that it leaves.
-use libc::STDOUT_FILENO;
 use pool::Edition;
 use screen::Screen;
+use std::io;
 
-fn text(bytes: &[u8]) {
-    io::write_all(STDOUT_FILENO, bytes);
+fn text(rt: &impl Print, bytes: &[u8]) -> io::Result<()> {
+    rt.write_all(bytes)
 }
 
 // A number, after a space.
-fn digits(n: u64) {
-    text(b" ");
-    io::print_decimal(STDOUT_FILENO, n);
+fn digits(rt: &impl Print, n: u64) -> io::Result<()> {
+    text(rt, b" ")?;
+    rt.print(n)
 }
 
-fn word(w: u32) {
-    digits(w as u64);
+fn word(rt: &impl Print, w: u32) -> io::Result<()> {
+    digits(rt, w as u64)
 }
 
-fn end_line() {
-    text(b"\n");
+fn end_line(rt: &impl Print) -> io::Result<()> {
+    text(rt, b"\n")
 }
 
 // A line: a name, and a number.
-fn number(name: &[u8], n: u64) {
-    text(name);
-    digits(n);
-    end_line();
+fn number(rt: &impl Print, name: &[u8], n: u64) -> io::Result<()> {
+    text(rt, name)?;
+    digits(rt, n)?;
+    end_line(rt)
 }
 
 // A line: a name, and the words of the slice from one place to before another, as far as it goes.
-fn row(name: &[u8], words: &[u32], from: usize, to: usize) {
-    text(name);
+fn row(rt: &impl Print, name: &[u8], words: &[u32], from: usize, to: usize) -> io::Result<()> {
+    text(rt, name)?;
     for i in from..to {
         if i < words.len() {
-            word(words[i]);
+            word(rt, words[i])?;
         }
     }
-    end_line();
+    end_line(rt)
 }
 
 // A line: a name, and the number that an opening answers.
-fn opening(name: &[u8], words: &mut [u32], screen: Screen, blocks: u32) {
-    number(name, pool::open(words, screen, blocks) as u64);
+fn opening(
+    rt: &impl Print,
+    name: &[u8],
+    words: &mut [u32],
+    screen: Screen,
+    blocks: u32,
+) -> io::Result<()> {
+    number(rt, name, pool::open(words, screen, blocks) as u64)
 }
 
 // The room of the case: eight tiles and two blocks.
@@ -52,7 +58,7 @@ fn needed() -> usize {
     pool::room_of(layout, 8, 2)
 }
 
-fn main() {
+fn main(rt: HostRuntime) -> io::Result<()> {
     let mut long = [7u32; 108];
     let mut short = [7u32; 103];
     let words: &mut [u32] = &mut long;
@@ -66,18 +72,18 @@ fn main() {
         height: 0,
         s: 4,
     };
-    opening(b"no height:", words, flat, 2);
-    opening(b"no height, too many blocks:", words, flat, 2049);
-    opening(b"too many blocks:", words, screen, 2049);
-    opening(b"one word too short:", &mut short, screen, 2);
-    row(b"as before:", words, 0, 8);
-    number(b"words needed:", needed() as u64);
-    opening(b"opened:", words, screen, 2);
-    row(b"header:", words, 0, 8);
-    row(b"tiles:", words, 8, 40);
-    row(b"block 0:", words, 40, 72);
-    row(b"block 1:", words, 72, 104);
-    row(b"tail:", words, 104, 108);
-    opening(b"opened without blocks:", words, screen, 0);
-    row(b"header:", words, 0, 8);
+    opening(&rt, b"no height:", words, flat, 2)?;
+    opening(&rt, b"no height, too many blocks:", words, flat, 2049)?;
+    opening(&rt, b"too many blocks:", words, screen, 2049)?;
+    opening(&rt, b"one word too short:", &mut short, screen, 2)?;
+    row(&rt, b"as before:", words, 0, 8)?;
+    number(&rt, b"words needed:", needed() as u64)?;
+    opening(&rt, b"opened:", words, screen, 2)?;
+    row(&rt, b"header:", words, 0, 8)?;
+    row(&rt, b"tiles:", words, 8, 40)?;
+    row(&rt, b"block 0:", words, 40, 72)?;
+    row(&rt, b"block 1:", words, 72, 104)?;
+    row(&rt, b"tail:", words, 104, 108)?;
+    opening(&rt, b"opened without blocks:", words, screen, 0)?;
+    row(&rt, b"header:", words, 0, 8)
 }

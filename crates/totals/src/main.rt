@@ -2,30 +2,30 @@
 // Runs the twelve marked cases as one list, behind a shape that is out of range, and writes the totals; then the same list with a wrong kind, with an unused word
 // that is not 0, and, as it then is, on a screen outside the rules.
 use calls::Counted;
-use libc::STDOUT_FILENO;
 use screen::Screen;
+use std::io;
 
-fn write(text: &[u8]) {
-    io::write_all(STDOUT_FILENO, text);
+fn write(rt: &impl Print, text: &[u8]) -> io::Result<()> {
+    rt.write_all(text)
 }
 
-fn write_total(name: &[u8], total: u64) {
-    write(name);
-    io::print_decimal(STDOUT_FILENO, total);
+fn write_total(rt: &impl Print, name: &[u8], total: u64) -> io::Result<()> {
+    write(rt, name)?;
+    rt.print(total)
 }
 
-fn write_totals(name: &[u8], counted: Counted) {
+fn write_totals(rt: &impl Print, name: &[u8], counted: Counted) -> io::Result<()> {
     let totals = counted.totals;
-    write(name);
-    write_total(b": number ", counted.number as u64);
-    write_total(b", shapes ", totals.shapes as u64);
-    write_total(b", out of range ", totals.out_of_range as u64);
-    write_total(b", by box ", totals.box_tiles);
-    write_total(b", by touching ", totals.touched_tiles);
-    write_total(b", difference ", totals.difference);
-    write_total(b", largest ", totals.largest as u64);
-    write_total(b" at ", totals.place as u64);
-    write(b"\n");
+    write(rt, name)?;
+    write_total(rt, b": number ", counted.number as u64)?;
+    write_total(rt, b", shapes ", totals.shapes as u64)?;
+    write_total(rt, b", out of range ", totals.out_of_range as u64)?;
+    write_total(rt, b", by box ", totals.box_tiles)?;
+    write_total(rt, b", by touching ", totals.touched_tiles)?;
+    write_total(rt, b", difference ", totals.difference)?;
+    write_total(rt, b", largest ", totals.largest as u64)?;
+    write_total(rt, b" at ", totals.place as u64)?;
+    write(rt, b"\n")
 }
 
 // Puts a word at a place of a list; past its end it puts none.
@@ -87,7 +87,7 @@ fn put_others(list: &mut [i32]) {
     put_triangle(list, 84, -1000, -1000, 5000, -1000, -1000, 5000);
 }
 
-fn main() {
+fn main(rt: HostRuntime) -> io::Result<()> {
     let screen = Screen {
         width: 64,
         height: 32,
@@ -98,13 +98,14 @@ fn main() {
     put_point(list, 0, 262144, 0);
     put_points(list);
     put_others(list);
-    write_totals(b"M1 to M12", calls::overlaps(list, screen));
+    write_totals(&rt, b"M1 to M12", calls::overlaps(list, screen))?;
     put(list, 0, 0);
-    write_totals(b"kind 0", calls::overlaps(list, screen));
+    write_totals(&rt, b"kind 0", calls::overlaps(list, screen))?;
     put_point(list, 0, 262144, 0);
     put(list, 6, 1);
-    write_totals(b"unused word 1", calls::overlaps(list, screen));
+    write_totals(&rt, b"unused word 1", calls::overlaps(list, screen))?;
     write_totals(
+        &rt,
         b"no tiles of 4 pixels",
         calls::overlaps(
             list,
@@ -114,5 +115,5 @@ fn main() {
                 s: 2,
             },
         ),
-    );
+    )
 }

@@ -5,7 +5,7 @@ use Prim.Native.Nat.{ℕ, ◌+◌, ◌≤◌}
 use native.Mathlib.Omega.{arith}
 use lib.ListN.{length, take, length-append}
 use lib.Seq.{length-take-le}
-use Rattle.lister.specs.Counts.{IsPrefixLen}
+use Rattle.io.specs.Counts.{IsPrefixLen}
 use Rattle.pool.specs.Written.{written, Puts}
 use Rattle.pool.proofs.Written.{written_none, written-append}
 use Rattle.pool.proofs.Putting.{take-written, puts_long}

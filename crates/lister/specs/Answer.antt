@@ -1,6 +1,6 @@
 -- What the lister writes for the bytes that it reads.
 use Rattle.std.specs.Prelude.{◌≡◌, List, [], ◌∷◌, ℕ, ◌%◌, ◌≤◌, ◌<◌, length, take}
-use Rattle.lister.specs.Counts.{IsPrefixLen}
+use Rattle.io.specs.Counts.{IsPrefixLen}
 use Rattle.pool.specs.Words.{layout_of}
 use Rattle.pool.specs.Sound.{Sound}
 use Rattle.lister.specs.Bytes.{words_of}

@@ -1,5 +1,3 @@
-pub mod Counts
-pub mod Digits
 pub mod Bytes
 pub mod Text
 pub mod Listing

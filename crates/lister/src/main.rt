@@ -1,14 +1,13 @@
 #![tactic(auto)]
 // Lists a pool of little-endian words, read from standard input: a line for the screen, and one for each tile with entries. `specs/Answer.antt` says what is
 // written for any bytes.
-mod decimal;
 mod input;
 mod listing;
 mod text;
 mod words;
 
 ghost use Rattle.std.specs.Prelude.{◌≤◌, ◌<◌, length, take};
-ghost use Rattle.lister.specs.Counts.{IsPrefixLen};
+ghost use Rattle.io.specs.Counts.{IsPrefixLen};
 ghost use Rattle.lister.specs.Answer.{WordsSay, BytesSay, Within, InputSays};
 
 use crate::input::{Input, read_input};
@@ -16,7 +15,6 @@ use crate::listing::put_listing;
 use crate::text::put_text;
 use crate::words::words_from;
 use audit::Audited;
-use std::io;
 
 // The longest input that is listed, in bytes and in words.
 const MOST_BYTES: usize = 65536;
@@ -70,7 +68,7 @@ fn list_input(buffer: &[u8], input: Input, out: &mut [u8]) -> usize
 }
 
 // Writes the text for what it reads. Where that fails, a line on standard error says so.
-fn main(rt: HostRuntime) -> io::Result<()> {
+fn main(rt: HostRuntime) -> std::io::Result<()> {
     let mut buffer = [0u8; MOST_BYTES + 1];
     let input = read_input(&mut rt.stdin(), &mut buffer);
     let mut out = [0u8; MOST_TEXT];

@@ -3,8 +3,6 @@ ghost use Rattle.std.specs.Prelude.{◌+◌, ◌≤◌, length};
 ghost use Rattle.pool.specs.Written.{Puts};
 ghost use Rattle.lister.specs.Text.{numeral, field};
 
-use crate::decimal::decimal;
-
 // The text itself.
 pub fn put_text(text: &[u8], out: &mut [u8], at: usize) -> usize
     requires { at + length text.now ≤ length out.old }
@@ -24,7 +22,7 @@ pub fn put_number(n: u32, out: &mut [u8], at: usize) -> usize
     ensures { Puts out.old at (numeral n) out.new result }
 {
     let mut digits = [0u8; 20];
-    let count = decimal(n as u64, &mut digits);
+    let count = io::decimal(n as u64, &mut digits);
     put_text(&digits[..count], out, at)
 }
 

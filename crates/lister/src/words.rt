@@ -1,6 +1,6 @@
 // From bytes to words, four to a word, the lowest first.
 ghost use Rattle.std.specs.Prelude.{◌≡◌, ◌+◌, ◌*◌, ◌<◌, ◌≤◌, length, take};
-ghost use Rattle.lister.specs.Counts.{IsPrefixLen};
+ghost use Rattle.io.specs.Counts.{IsPrefixLen};
 ghost use Rattle.lister.specs.Bytes.{word_of, word_at, words_of};
 
 // A byte, as a word.

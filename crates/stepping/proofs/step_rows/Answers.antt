@@ -1,6 +1,6 @@
 -- `stepping::step_rows` meets its contract. The invariant: the rows passed are walked as the definition says, and their touched tiles are listed. The measure
 -- is what is left of the rows.
-use Prim.Native.Nat.{ℕ, ◌+◌, ◌*◌, ◌-◌, ◌≤◌}
+use Prim.Native.Nat.{ℕ, ◌+◌, ◌*◌}
 use mathlib.Core.Path.{refl, ap}
 use native.Mathlib.Omega.{arith}
 use Rattle.walk.specs.Row.{outlined}

@@ -1,7 +1,7 @@
 -- Each shape has its list of touched tiles and its flags, on every screen within the rules: whether a tile is touched, and whether it is wholly covered, is
 -- decided by the corners, tile by tile.
 use Prim.Native.Nat.{ℕ, zero, suc, ◌+◌, ◌≤◌, ◌<◌}
-use mathlib.Core.Path.{◌≡◌, refl, subst}
+use mathlib.Core.Path.{refl, subst}
 use mathlib.Core.Bool.{Bool, true, false}
 use mathlib.Core.List.{List}
 use mathlib.Core.Logic.{◌⊎◌, inl, inr, ⊎_elim}

@@ -1,5 +1,5 @@
 -- `stepping::append` meets its contract. The invariant: the columns passed are a run, and each of its words is named. The measure is what is left of it.
-use Prim.Native.Nat.{◌+◌, ◌≤◌, ◌<◌, ◌-◌}
+use Prim.Native.Nat.{◌+◌, ◌<◌}
 use mathlib.Core.Bool.{◌&&◌}
 use native.Mathlib.Omega.{arith}
 use lib.Dec.{leb, ltb}

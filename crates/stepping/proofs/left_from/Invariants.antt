@@ -1,6 +1,6 @@
 -- `stepping::left_from` meets its contract. The invariant: the columns passed are hit, and those of them that are enclosed are found. The measure is the
 -- first of them.
-use Prim.Native.Nat.{ℕ, ◌-◌, ◌≤◌, ◌<◌}
+use Prim.Native.Nat.{ℕ, ◌≤◌, ◌<◌}
 use Rattle.walk.specs.Row.{ClearIn, EnclosedIn}
 use Rattle.stepping.specs.Row.{Hull}
 use Rattle.stepping.proofs.left_from.Given as goal

@@ -1,6 +1,6 @@
 -- `stepping::right_from` meets its contract. The invariant: the columns passed are hit, and those of them that are enclosed are found. The measure is what is
 -- left of the row.
-use Prim.Native.Nat.{◌+◌, ◌≤◌, ◌-◌}
+use Prim.Native.Nat.{◌+◌}
 use mathlib.Core.Path.{sym, subst, ◌∙◌}
 use native.Mathlib.Omega.{arith}
 use Rattle.screen.specs.declared.Span.{Span}

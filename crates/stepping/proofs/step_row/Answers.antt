@@ -2,7 +2,7 @@
 -- each miss beside it; the wholly covered tiles are those that the tests told of.
 use Prim.Native.Nat.{◌+◌, ◌<◌}
 use mathlib.Core.Path.{sym, subst}
-use mathlib.Core.Logic.{⊎_elim, inl, inr}
+use mathlib.Core.Logic.{inl, inr}
 use native.Mathlib.Omega.{arith}
 use Rattle.touch.specs.declared.RowEdges.{RowEdges}
 use Rattle.walk.specs.Row.{ClearIn, EnclosedIn, First}

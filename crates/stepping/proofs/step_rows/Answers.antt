@@ -1,6 +1,6 @@
 -- `stepping::step_rows` meets its contract. The invariant: the rows passed are walked as the definition says, and their touched tiles are listed. The measure
 -- is what is left of the rows.
-use Prim.Native.Nat.{ℕ, ◌+◌, ◌*◌, ◌-◌, ◌≤◌}
+use Prim.Native.Nat.{ℕ, ◌+◌, ◌*◌}
 use mathlib.Core.Path.{refl, ap}
 use native.Mathlib.Omega.{arith}
 use Rattle.walk.specs.Row.{outlined}
@@ -103,7 +103,7 @@ pub overflow_sub-result : goal.overflow_sub-result
 overflow_sub-result c =
     let l = c.loop-row in
     let r = l.invariant.0 in
-    walking_counted c.args.screen c.requires.allowed.0 c.args.edges c.requires.allowed.2 c.args.list.now l.list c.args.rows c.requires.meeting_columns.1 (omega arith) l.invariant.1
+    omega (arith, walking_counted c.args.screen c.requires.allowed.0 c.args.edges c.requires.allowed.2 c.args.list.now l.list c.args.rows c.requires.meeting_columns.1 (omega arith) l.invariant.1)
 
 pub shape_of-list : goal.shape_of-list
 shape_of-list c =

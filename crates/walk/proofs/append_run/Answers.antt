@@ -1,5 +1,5 @@
 -- `walk::append_run` meets its contract. The invariant: the columns passed are a run, and each of its words was tested. The measure is what is left of the span.
-use Prim.Native.Nat.{◌+◌, ◌≤◌, ◌<◌, ◌-◌}
+use Prim.Native.Nat.{◌+◌, ◌<◌}
 use mathlib.Core.Path.{sym, subst, ◌∙◌}
 use mathlib.Core.Bool.{Bool}
 use native.Mathlib.Omega.{arith}

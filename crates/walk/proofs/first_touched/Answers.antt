@@ -1,5 +1,4 @@
 -- `walk::first_touched` meets its contract. The invariant: no column passed is clear. The measure is what is left of the span.
-use Prim.Native.Nat.{◌-◌}
 use mathlib.Core.Path.{sym, subst, ◌∙◌}
 use mathlib.Core.Bool.{Bool}
 use native.Mathlib.Omega.{arith}

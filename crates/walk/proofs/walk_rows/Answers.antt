@@ -1,5 +1,4 @@
 -- `walk::walk_rows` meets its contract. The invariant: the touched tiles of the rows passed are listed. The measure is what is left of the rows.
-use Prim.Native.Nat.{◌-◌}
 use native.Mathlib.Omega.{arith}
 use borrow.Author.Rules.{rules}
 use Rattle.screen.specs.Rectangle.{In}

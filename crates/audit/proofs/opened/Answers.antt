@@ -6,7 +6,6 @@ use Rattle.screen.specs.Screen.{Allowed}
 use Rattle.pool.specs.Words.{start, room, header_word}
 use Rattle.pool.specs.Editions.{layout_for}
 use Rattle.pool.specs.Sound.{screen_of, tiles_of, blocks_of}
-use borrow.Author.Rules.{rules}
 use Rattle.audit.proofs.opened.Goals as goal
 use Rattle.audit.proofs.opened.Goals.{After-room_of, Else-not-allowed}
 

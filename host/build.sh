@@ -1,72 +1,67 @@
 #!/usr/bin/env bash
-# Makes target/host/libflourscoop.a: the proved crate capi, compiled for this machine's processor.
+# Makes the archive for C and Rust hosts: the proved crate capi, compiled.
 #
-# On x86-64 it is the archive that `rt staticlib capi` writes. On Arm that archive does not link, so the module that the
-# prover hands to the kit's clang as LLVM bitcode is kept, and the same clang compiles it for Arm: rt is run over a folder
-# of links to the kit, in which only `clang` is another, one that keeps a copy of its input. No proof covers the compiler's
-# back end, on either processor.
+#   host/build.sh            target/host/libflourscoop.a, for every x86-64 processor
+#   host/build.sh aarch64    target/host/aarch64/libflourscoop.a, for Arm, made on x86-64 as well
+#
+# The kit runs on x86-64 alone. Its `rt lib` proves the crates below capi, and capi, over what earlier checks kept in crates/*/out,
+# and the kit's clang compiles it. With --over-ci before the processor, as the gate gives it in a clean clone right after rt ci,
+# capi is proved once more, and compiled, over the very libraries that rt ci left there; `rt lib`, which has no use for those, would
+# prove each of them a second time. No proof covers the compiler's back end, on either processor.
 set -eu
 cd "$(dirname "${BASH_SOURCE[0]}")/.."
 . host/steps.sh
 root=$PWD
-made=$root/target/host
-log=target/host/build.log
+log=$root/target/host/build.log
 
-need_kit
-machine=$(uname -m)
-kit=$(dirname "$(dirname "$(rt doc)")")
-tools=$kit/on/$machine/toolchain
-
-# Links all of folder $1 but $3 in folder $2.
-link_all_but() {
-    mkdir -p "$2"
-    for path in "$1"/*; do
-        [ "${path##*/}" = "$3" ] || ln -sfn "$path" "$2/${path##*/}"
-    done
-}
-
-# Makes the folder of links $1, whose clang keeps its input as $2.
-keeping_kit() {
-    link_all_but "$kit" "$1" on
-    link_all_but "$kit/on/$machine" "$1/on/$machine" toolchain
-    link_all_but "$tools" "$1/on/$machine/toolchain" bin
-    link_all_but "$tools/bin" "$1/on/$machine/toolchain/bin" clang
-    cat >"$1/on/$machine/toolchain/bin/clang" <<EOF
-#!/bin/sh
-for word; do case \$word in *.bc) cp "\$word" '$2' ;; esac; done
-exec '$tools/bin/clang' "\$@"
-EOF
-    chmod +x "$1/on/$machine/toolchain/bin/clang"
-}
-
-# Compiles the module $1 for Arm as the object $2.
-compile_for_arm() {
-    # the module names x86-64 as its processor in each function; clang passes over that, and says so
-    if ! "$tools/bin/clang" --target=aarch64-unknown-linux-gnu --no-default-config -Wno-override-module \
-        -ffunction-sections -fdata-sections -fPIC -O3 -c -x ir "$1" -o "$2" 2>"$made/clang.log"; then
-        tail -n 30 "$made/clang.log" >&2
-        stop "the kit's clang did not compile the module for Arm; target/host/clang.log has all that it said"
-    fi
-    grep -v "'x86-64' is not a recognized processor" "$made/clang.log" || true
-}
-
-say "proves capi and what it rests on, and compiles it for $machine; about four minutes the first time, half a minute after that"
-mkdir -p "$made"
-rm -f "$made/libflourscoop.a" "$made/module.bc"
-case $machine in
+over_ci=
+if [ "${1-}" = --over-ci ]; then
+    over_ci=yes
+    shift
+fi
+processor=${1:-x86_64}
+[ $# -le 1 ] || stop "host/build.sh [--over-ci] [aarch64]"
+case $processor in
 x86_64)
-    proving "$log" staticlib capi
-    cp target/staticlib/libcapi.a "$made/libflourscoop.a"
+    made=$root/target/host
+    # the first processor of x86-64's list: the code then runs on every one; left out, rt takes x86-64-v2
+    kind=(--cpu x86-64)
     ;;
 aarch64)
-    [ -x "$tools/bin/clang" ] || stop "the kit at $kit has no clang for $machine"
-    keeping_kit "$made/kit" "$made/module.bc"
-    export RATTLE_HOME=$made/kit
-    proving "$log" staticlib capi
-    [ -f "$made/module.bc" ] || stop "the prover handed no module to clang"
-    compile_for_arm "$made/module.bc" "$made/flourscoop.o"
-    "$tools/bin/llvm-ar" rcs "$made/libflourscoop.a" "$made/flourscoop.o"
+    made=$root/target/host/aarch64
+    kind=(--target aarch64-unknown-linux-gnu)
     ;;
-*) stop "nothing is known of how to compile for $machine" ;;
+*) stop "nothing is known of how to compile for $processor" ;;
 esac
-say "target/host/libflourscoop.a is for $machine"
+[ "$(uname -m)" = x86_64 ] || stop "the kit runs on x86-64 alone: make the archive there, by host/build.sh $(uname -m), and bring it here"
+need_kit
+
+# Makes out/libcapi.a over the libraries that stand in crates/*/out, by the words that rt lib would give.
+build_over_ci() {
+    local kit words=() name path
+    kit=$(dirname "$(rt doc)")
+    for name in std $(sed -n 's/^capi staticlib: *//p' "$root/crates.txt"); do
+        path=$kit/rlibs
+        [ ! -d "../$name" ] || path=../$name/out/rlib
+        words+=(--extern "$name=$path/$name.rlib")
+    done
+    for path in "$kit/rlibs" ../*/out/rlib; do
+        words+=(-L "dependency=$path")
+    done
+    mkdir -p out
+    "$kit/bin/rattle" build --crate-name capi src/lib.rt "${words[@]}" --antt-project "$kit/rattle/logic/antt-project.json" --logic-built "$kit/logic_built" \
+        --jobs 2 --links capi= --crate-type staticlib --toolchain "$kit/toolchain" --backend llvm "$@" -o out/libcapi.a
+}
+
+mkdir -p "$made" target/host
+rm -f "$made/libflourscoop.a"
+cd crates/capi
+if [ -n "$over_ci" ]; then
+    say "proves capi over what rt ci has proved, and compiles it for $processor; a minute or two"
+    proving "$log" build_over_ci "${kind[@]}"
+else
+    say "proves capi and what it rests on, and compiles it for $processor; from nothing that takes as long as all these proofs, and a minute or two after that"
+    proving "$log" rt lib "${kind[@]}"
+fi
+cp out/libcapi.a "$made/libflourscoop.a"
+say "${made#"$root"/}/libflourscoop.a is for $processor"

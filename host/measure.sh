@@ -30,9 +30,4 @@ cc -O1 -Wall -Wextra -Iinclude c/stack.c -L"$made" -lflourscoop -o "$made/stack"
 "$made/stack"
 say "code"
 size -t "$made/libflourscoop.a"
-# on Arm the archive for x86-64 is made on the way
-if [ "$(uname -m)" = aarch64 ]; then
-    need llvm-size llvm
-    llvm-size ../target/staticlib/libcapi.a
-fi
 echo "needed from outside:" "$(nm -u "$made/libflourscoop.a" | awk 'NF == 2 { print $2 }' | sort -u | tr '\n' ' ')"

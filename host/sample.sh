@@ -5,8 +5,9 @@ cd "$(dirname "${BASH_SOURCE[0]}")/.."
 . host/steps.sh
 need_kit
 need python3 python3
-say "proves and builds the lister; about two minutes the first time, a second after that"
+say "proves and builds the lister and what it rests on; minutes the first time, seconds after that"
 mkdir -p target/host
-proving target/host/sample.log check lister
+log=$PWD/target/host/sample.log
+(cd crates/lister && proving "$log" rt run)
 say "the listing of crates/lister/stdin:"
 host/lister/run --list crates/lister/stdin

@@ -25,17 +25,17 @@ need() {
 need_kit() { command -v rt >/dev/null || stop "rt, the command of the Rattle kit, is not on the PATH"; }
 
 # Ends the script where the archive is not in the folder $1.
-need_archive() { [ -f "$1/libflourscoop.a" ] || stop "target/host/libflourscoop.a is not there: run host/build.sh first (about four minutes)"; }
+need_archive() { [ -f "$1/libflourscoop.a" ] || stop "target/host/libflourscoop.a is not there: run host/build.sh first"; }
 
-# Runs rt with the words after $1. All that it says goes to the log $1; its own lines are shown and, where it fails, the end of the log.
+# Runs the command behind $1. All that it says goes to the log $1; rt's own lines are shown and, where it fails, the end of the log.
 proving() {
     local log=$1 ended
     shift
-    rt "$@" </dev/null 2>&1 | tee "$log" | { grep -a --line-buffered '^rt:' || true; }
+    "$@" </dev/null 2>&1 | tee "$log" | { grep -a --line-buffered '^rt:' || true; }
     ended=${PIPESTATUS[0]}
     if [ "$ended" -ne 0 ]; then
         echo "the end of $log:"
         tail -n 30 "$log" | sed 's/^/    /'
-        stop "rt $* failed; $log has all that it said"
+        stop "$* failed; $log has all that it said"
     fi
 }

@@ -64,4 +64,4 @@ module _ {p : List ℕ} (n : Sound (layout_of p) p → ⊥) where
 pub old_layout_answers_4 : OldLayoutAnswers4
 old_layout_answers_4 p O =
     let n = old_unsound O in
-    record { audit = λ number A. audit_4 n A; step = step_4 n; list = λ ws old number q new B. list_4 n B; high_water_lem = λ t a H. high_water_4 n H }
+    record { audit = λ number A. audit_4 n A; step = step_4 n; list = λ ws old number q new B. list_4 n B; high_water = λ t a H. high_water_4 n H }

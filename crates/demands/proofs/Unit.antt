@@ -14,7 +14,7 @@ use Rattle.calls.specs.Units.{UnitSays}
 use Rattle.demands.specs.Unit.{Demand1Unit}
 
 pub demand_1_unit : {v : Float} {a : Rounded} → UnitSays v a → Demand1Unit a
-demand_1_unit (UnitSays.not-Finite n e) = record { number_is = inr (inl (ap (λ (b : Rounded). b.number) e)); refused = λ _. ap (λ (b : Rounded). b.unit) e }
+demand_1_unit (UnitSays.not_finite n e) = record { number_is = inr (inl (ap (λ (b : Rounded). b.number) e)); refused = λ _. ap (λ (b : Rounded). b.unit) e }
 demand_1_unit (UnitSays.out_of_range z u o e) =
     record { number_is = inr (inr (inl (ap (λ (b : Rounded). b.number) e))); refused = λ _. ap (λ (b : Rounded). b.unit) e }
 demand_1_unit (UnitSays.done z u i e) = let zero = ap (λ (b : Rounded). b.number) e in record { number_is = inl zero; refused = λ ne. absurd (ne zero) }
@@ -32,12 +32,12 @@ in_range_or_not : (v : Float) (z y : ℤ) → HasUnit v z → HasUnit v y → In
 in_range_or_not v z y u w i o = o (subst InUnits (one_unit v z y u w) i)
 
 pub unit_one_outcome : {v : Float} {a b : Rounded} → UnitSays v a → UnitSays v b → a ≡ b
-unit_one_outcome (UnitSays.not-Finite n e) (UnitSays.not-Finite n' e') = cc
-unit_one_outcome {v} (UnitSays.not-Finite n e) (UnitSays.out_of_range z' u' o' e') = absurd (unit_or_not_finite v z' u' n)
-unit_one_outcome {v} (UnitSays.not-Finite n e) (UnitSays.done z' u' i' e') = absurd (unit_or_not_finite v z' u' n)
-unit_one_outcome {v} (UnitSays.out_of_range z u o e) (UnitSays.not-Finite n' e') = absurd (unit_or_not_finite v z u n')
+unit_one_outcome (UnitSays.not_finite n e) (UnitSays.not_finite n' e') = cc
+unit_one_outcome {v} (UnitSays.not_finite n e) (UnitSays.out_of_range z' u' o' e') = absurd (unit_or_not_finite v z' u' n)
+unit_one_outcome {v} (UnitSays.not_finite n e) (UnitSays.done z' u' i' e') = absurd (unit_or_not_finite v z' u' n)
+unit_one_outcome {v} (UnitSays.out_of_range z u o e) (UnitSays.not_finite n' e') = absurd (unit_or_not_finite v z u n')
 unit_one_outcome (UnitSays.out_of_range z u o e) (UnitSays.out_of_range z' u' o' e') = cc
 unit_one_outcome {v} (UnitSays.out_of_range z u o e) (UnitSays.done z' u' i' e') = absurd (in_range_or_not v z' z u' u i' o)
-unit_one_outcome {v} (UnitSays.done z u i e) (UnitSays.not-Finite n' e') = absurd (unit_or_not_finite v z u n')
+unit_one_outcome {v} (UnitSays.done z u i e) (UnitSays.not_finite n' e') = absurd (unit_or_not_finite v z u n')
 unit_one_outcome {v} (UnitSays.done z u i e) (UnitSays.out_of_range z' u' o' e') = absurd (in_range_or_not v z z' u u' i o')
 unit_one_outcome {v} (UnitSays.done z u i e) (UnitSays.done z' u' i' e') = let same = one_unit v z z' u u' in cc

@@ -17,7 +17,7 @@ pub record Answers4 (p : List ℕ) : Type 0 where
   pub audit : (number : ℕ) → AuditSays p number → number ≡ 4
   pub step : (e : Entry) (q : List ℕ) → Step p e q → number_of e ≡ 4
   pub list : (ws : List ℤ) (old : List ℕ) (number : ℕ) (q new : List ℕ) → BinListSays p ws old number q new → number ≡ 4
-  pub high_water_lem : (t : ℕ) (a : HighWater) → HighWaterSays p t a → a.number ≡ 4
+  pub high_water : (t : ℕ) (a : HighWater) → HighWaterSays p t a → a.number ≡ 4
 
 abbrev pub OldLayoutAnswers4 : Type 0
 OldLayoutAnswers4 = (p : List ℕ) → Opened unmarked p → Answers4 p

@@ -119,6 +119,6 @@ gained entry id (w ∷ ws) h = (h 0 (omega arith), gained entry id ws (λ i l. h
 pub named_appends : (L : Layout) (T : ℕ) (p : List ℕ) (entry : ℕ → ℕ) (id : ℕ) (named : List ℕ) → Gained entry id named
     → append_named L T p named id ≡ append_all L T p (plains named) entry
 unfolding append_all append_named
-named_appends L T p entry id [] g = refl
-named_appends L T p entry id (w ∷ ws) g =
-    ap (λ (n : ℕ). append_named L T (append L T p (plain w) n) ws id) (sym g.0) ∙ named_appends L T (append L T p (plain w) (entry (plain w))) entry id ws g.1
+named_appends L T p gain id [] g = refl
+named_appends L T p gain id (w ∷ ws) g =
+    ap (λ (n : ℕ). append_named L T (append L T p (plain w) n) ws id) (sym g.0) ∙ named_appends L T (append L T p (plain w) (gain (plain w))) gain id ws g.1

@@ -1,5 +1,5 @@
 -- Lists of tiles by their places: what stands at a place is named, what is named stands at one, and a rising list names no tile twice.
-use mathlib.Core.Path.{◌≡◌, refl, sym, ap, ◌∙◌}
+use mathlib.Core.Path.{◌≡◌, refl, sym, ap, ◌∙◌, subst}
 use mathlib.Core.Logic.{◌≢◌, ⊎_elim}
 use mathlib.Core.List.{List, [], ◌∷◌}
 use Prim.Native.Nat.{ℕ, zero, suc, ◌≤◌, ◌<◌}
@@ -41,7 +41,7 @@ rising_once : (ts : List ℕ) → ((i : ℕ) → suc i < length ts → get_or ts
 rising_once [] up t = omega arith
 rising_once (u ∷ ts) up t =
     let rest : (i : ℕ) → suc i < length ts → get_or ts i 0 < get_or ts (suc i) 0 = (λ i h. up (suc i) (omega arith)) in
-    ⊎_elim (λ (e : t ≡ u). rw e (omega (arith, one_same u, rising_misses ts u rest (λ h. up 0 (omega arith)))))
+    ⊎_elim (λ (e : t ≡ u). subst (λ (n : ℕ). times n (u ∷ ts) ≤ 1) (sym e) (omega (arith, one_same u, rising_misses ts u rest (λ h. up 0 (omega arith)))))
     (λ (ne : t ≢ u). omega (arith, one_other t u ne, rising_once ts rest t))
     (eq_or_ne t u)
 

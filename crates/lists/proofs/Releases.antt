@@ -63,7 +63,7 @@ module _ {L : Layout} {T N : ℕ} {p : List ℕ} {s : State} (A : Fair L) (R : S
         shows_set R _ t (emptied x.mark) (onto x.blocks s.free) ht
             (simp (header_tile_set L) E.count)
             (simp (header_tile_set L) E.first)
-            (frame L.ids L.poison (block_word L T G) _ (onto x.blocks s.free) [] (λ b hb j hj. simp (block_tile_set L T)) E.poisoned)
+            (frame L.ids L.poison (block_word L T G) (block_word L T (release L T p t)) (onto x.blocks s.free) [] (λ b hb j hj. simp (block_tile_set L T)) E.poisoned)
             (record {
               entries = simp (tile_set_other_word L) (tile_set_lem L T _ t 0 0 lb ht tile0);
               first = simp (tile_set_other_word L) (tile_set_lem L T _ t 1 0 (simp (length-tile_set L) lb) ht tile1);

@@ -41,7 +41,7 @@ module _ {L : Layout} {T N : ℕ} (A : Fair L) (entry : ℕ → ℕ) (in_range :
       × Kept L T N p (append_all L T p ts entry) s (append_all_state L.ids s ts entry) ts
       × (length (append_all_state L.ids s ts entry).free + need_state L.ids s ts ≡ length s.free)
   unfolding append_all append_all_state need_state
-  append_all_shows {p} {s} [] R long D room = (
+  append_all_shows {p} {s} [] R long D enough = (
     R,
     record {
       long = refl;
@@ -53,14 +53,14 @@ module _ {L : Layout} {T N : ℕ} (A : Fair L) (entry : ℕ → ℕ) (in_range :
     },
     omega arith,
   )
-  append_all_shows {p} {s} (t ∷ ts) R long D room =
+  append_all_shows {p} {s} (t ∷ ts) R long D enough =
       let ids = L.ids in
       let r = append_state ids s t (entry t) in
       let here : one (multiple ids (length (tile_of s t).list)) ≤ length s.free = omega arith in
       let M = append_step A R long t (entry t) (D.below t (times_head t ts)) (in_range t) here in
       let f = append_free ids s t (entry t) here in
       let n = need_other ids s t (entry t) ts (distinct_first D) in
-      let I = append_all_shows ts M.shows (rw M.within.keeps.long long) (distinct_rest D) (omega arith) in
+      let I = append_all_shows {p = append L T p t (entry t)} {s = r} ts M.shows (rw M.within.keeps.long long) (distinct_rest D) (omega arith) in
       let K = I.1 in
       let apart : (u : ℕ) → times u (t ∷ ts) ≡ 0 → u ≢ t = (λ u z e. times_differ t u (t ∷ ts) (times_head t ts) z (sym e)) in (
         I.0,

@@ -21,7 +21,7 @@ use Rattle.pool.proofs.State.{tile_once, tile_block<, free_block<}
 use Rattle.pool.proofs.Room.{Agree, header_agrees, tile_agrees, block_agrees}
 use Rattle.lists.specs.Appending.{pick, multiple, counted, append_in, take_head, take_block, append_first, append_next, append, append_all, Distinct}
 use Rattle.lists.specs.Releasing.{fill, give_block, give_chain, release}
-use Rattle.lists.specs.Steps.{need_state}
+use Rattle.lists.specs.Steps.{append_state, need_state}
 use Rattle.lists.proofs.Appends.{append_step}
 use Rattle.lists.proofs.Counts.{append_free, need_other, distinct_first, distinct_rest}
 use Rattle.lists.proofs.Gives.{fill_other}
@@ -104,7 +104,7 @@ append_all_together A entry in_range [] G R D enough = G
 append_all_together {L} {T} {N} {p} {q} {s} A entry in_range (t ∷ ts) G R D enough =
     let here : one (multiple L.ids (length (tile_of s t).list)) ≤ length s.free = omega arith in
     let ht = D.below t (times_head t ts) in
-    append_all_together A entry in_range ts (append-together A G t ht R (entry t) here) (append_step A R G.long t (entry t) ht (in_range t) here).shows (distinct_rest D)
+    append_all_together {p = append L T p t (entry t)} {q = append L T q t (entry t)} {s = append_state L.ids s t (entry t)} A entry in_range ts (append-together A G t ht R (entry t) here) (append_step A R G.long t (entry t) ht (in_range t) here).shows (distinct_rest D)
     (omega (arith, append_free L.ids s t (entry t) here, need_other L.ids s t (entry t) ts (distinct_first D)))
 
 -- ---- a release

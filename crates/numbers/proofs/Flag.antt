@@ -1,11 +1,10 @@
 -- A word gives back the number and the flag that it was made of, and the words below twice the flag are just those.
-use mathlib.Core.Path.{◌≡◌, refl, ap, ◌∙◌}
+use mathlib.Core.Path.{◌≡◌, refl, ap}
 use mathlib.Core.Bool.{Bool, true, false}
 use mathlib.Core.List.{List, [], ◌∷◌}
 use Prim.Native.Nat.{ℕ, zero, suc, ◌+◌, ◌<◌}
 use native.Mathlib.Omega.{arith}
 use borrow.Author.Tests.{leb-true, leb-false}
-use lib.Dec.{leb}
 use lib.ListN.{length, get_or, set, take, length-map, get_or-map}
 use Rattle.numbers.specs.Flag.{flag, flagged, plain, is_flagged, plains}
 use Rattle.numbers.proofs.Says.{says_true, says_false}

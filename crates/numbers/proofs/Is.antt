@@ -4,11 +4,11 @@ use mathlib.Core.Bool.{Bool, true, false, not, cond}
 use Prim.Native.Nat.{ℕ, zero, suc, ◌+◌, ◌*◌, ◌-◌, ◌<◌, ◌≤◌, ◌^◌, max}
 use native.Mathlib.Nat.{mul-le-mul}
 use native.Mathlib.Omega.{arith}
-use lib.Dec.{T, leb, ltb, ltb→lt, lt→ltb, leb→le, nleb→lt}
+use lib.Dec.{T, ltb, ltb→lt, lt→ltb, leb→le, nleb→lt}
 use lib.IntN.{ℤ, pos, negsuc, neg_ℤ, nat_abs, ◌+ℤ◌, ◌-ℤ◌, ◌*ℤ◌}
 use lib.Signed.{mag, lt_z, le_z, ◌≤ℤ◌, ◌<ℤ◌, non_neg, lt_z_no, yes_non_neg}
 use mir.Syntax.{Width}
-use mir.Val.{Fits, SFits, to_z, of_z, bits, hbits}
+use mir.Val.{Fits, SFits, bits, hbits}
 use mir.Facts.{to_z-of_z}
 use Rattle.numbers.specs.Diff.{up}
 use Rattle.numbers.specs.Is.{Is, kept}

@@ -1,6 +1,6 @@
 -- Every fact about products that the geometry needs is a sum of these: a product of two differences that are not negative is not negative.
 use Prim.Native.Nat.{ℕ, ◌+◌, ◌*◌, ◌-◌, ◌≤◌}
-use mathlib.Core.Path.{◌≡◌, subst}
+use mathlib.Core.Path.{subst}
 use native.Mathlib.Omega.{arith}
 use native.Mathlib.Nat.{mul-le-mul_right, add-sub_of_le}
 

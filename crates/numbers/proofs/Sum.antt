@@ -1,7 +1,7 @@
 -- Sums: of sums, of equal summands, of a multiple, by the first summand, in order, in parts and row by row; and of a test's answers.
 use mathlib.Core.Path.{◌≡◌, refl, ap}
 use mathlib.Core.Bool.{Bool, true, false}
-use mathlib.Core.Logic.{◌⊎◌, ⊎_elim}
+use mathlib.Core.Logic.{⊎_elim}
 use Prim.Native.Nat.{ℕ, zero, suc, ◌+◌, ◌*◌, ◌≤◌, ◌<◌, zero-le}
 use native.Mathlib.Omega.{arith}
 use Rattle.numbers.specs.Sum.{sum_to, one}

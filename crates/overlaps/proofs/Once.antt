@@ -23,7 +23,7 @@ module _ (d : Screen) (shape : ℕ → Shape) (n : ℕ) where
     where
       go : (b : Bool) → Says b (InRange (shape i)) → f i ≡ g i
       go true s = once (shape i) (f i) (g i) (h.in_range i l (s.yes refl)) (k.in_range i l (s.yes refl))
-      go false s = h.out-of-range i l (s.no refl) ∙ sym (k.out-of-range i l (s.no refl))
+      go false s = h.out_of_range i l (s.no refl) ∙ sym (k.out_of_range i l (s.no refl))
 
   -- where the number at p is the largest, the first place is not after p
   not_after : (g : ℕ → ℕ) {m p first : ℕ} → InRange (shape p) → g p ≡ m → ((i : ℕ) → i < first → InRange (shape i) → g i < m) → first ≤ p

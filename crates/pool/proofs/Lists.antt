@@ -7,9 +7,8 @@ use native.Mathlib.Nat.{le_of_suc-le-suc, not-suc-le-zero}
 use native.Mathlib.Omega.{arith}
 use lib.ListN.{length, get_or, take, drop, length-append, get_or-append}
 use lib.Seq.{get_or-append-add, get_or-drop, get_or-take, length-take-le, ext_get_or}
-use Rattle.numbers.specs.Ceil.{ceil}
 use Rattle.numbers.proofs.Ceil.{lt_or_ge, ceil_enough, ceil-least}
-use Rattle.pool.specs.Words.{Layout, Fair, tile_word, block_word}
+use Rattle.pool.specs.Words.{Layout, Fair, block_word}
 use Rattle.pool.specs.State.{Chained, State, tile_of, link_to, Holds}
 use Rattle.pool.specs.Sound.{TileShows, Shows}
 use Rattle.pool.specs.Lists.{table, gather, list_of}

@@ -1,11 +1,11 @@
 -- How many blocks of m places hold q ids, and when the last of them is full.
 use mathlib.Core.Path.{◌≡◌, sym, ◌∙◌}
 use mathlib.Core.Logic.{◌≢◌, ⊎_elim}
-use Prim.Native.Nat.{ℕ, suc, ◌+◌, ◌*◌, ◌-◌, ◌/◌, ◌%◌, ◌≤◌, ◌<◌}
+use Prim.Native.Nat.{ℕ, suc, ◌+◌, ◌*◌, ◌/◌, ◌%◌, ◌≤◌, ◌<◌}
 use native.Mathlib.Nat.{mul-le-mul_left, mul-le-mul_right, div-add-mod, mod-lt}
 use native.Mathlib.Omega.{arith}
 use Rattle.numbers.specs.Ceil.{ceil}
-use Rattle.numbers.proofs.Ceil.{lt_or_ge, same_mul, ceil_enough, ceil-least, ceil_is}
+use Rattle.numbers.proofs.Ceil.{lt_or_ge, ceil_enough, ceil-least, ceil_is}
 
 module _ (m : ℕ) (0<m : 0 < m) where
   -- no ids, no blocks

@@ -1,13 +1,12 @@
 -- The words settle what they say: two states that the same words show are equal.
 use mathlib.Core.Path.{◌≡◌, sym, ◌∙◌}
 use mathlib.Core.List.{List, []}
-use Prim.Native.Nat.{ℕ, ◌<◌}
+use Prim.Native.Nat.{ℕ}
 use native.Mathlib.Omega.{arith}
-use lib.ListN.{length}
 use lib.Seq.{ext_get_or}
 use Rattle.pool.specs.Words.{Layout, Fair, block_word}
-use Rattle.pool.specs.State.{Chained, empty, State, tile_of}
-use Rattle.pool.specs.Sound.{TileShows, Shows, Sound}
+use Rattle.pool.specs.State.{Chained, empty, State}
+use Rattle.pool.specs.Sound.{TileShows, Shows}
 use Rattle.pool.proofs.Chain.{blocks_unique}
 use Rattle.pool.proofs.Lists.{list_of_tile}
 

@@ -5,7 +5,7 @@ use Prim.Native.Nat.{ℕ, zero, suc, ◌+◌, ◌*◌, ◌-◌, ◌≤◌, ◌<�
 use native.Mathlib.Numerals.{add-one}
 use native.Mathlib.Omega.{arith}
 use lib.ListN.{length, set, take, drop, replicate, length-append, length-set, length-replicate}
-use lib.Seq.{set_comm, sets, sets-eq, length-sets}
+use lib.Seq.{set_comm, sets-eq, length-sets}
 use Rattle.pool.specs.Words.{Layout}
 use Rattle.pool.specs.State.{link_to}
 use Rattle.pool.specs.Opening.{rising, free_block, free_blocks}

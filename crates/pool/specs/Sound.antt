@@ -4,7 +4,7 @@ use Rattle.numbers.specs.Ceil.{ceil}
 use Rattle.screen.specs.declared.Screen.{Screen}
 use Rattle.screen.specs.Screen.{Allowed, tiles}
 use Rattle.pool.specs.Words.{Layout, start, room, header_word, tile_word, block_word}
-use Rattle.pool.specs.State.{Chained, empty, State, tile_of, link_to, last_link, times_in_all, Holds}
+use Rattle.pool.specs.State.{Chained, State, tile_of, link_to, last_link, times_in_all, Holds}
 
 -- words 0 to 2: the screen
 abbrev pub screen_of : List ℕ → Screen

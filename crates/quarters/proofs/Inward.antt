@@ -6,7 +6,7 @@ use native.Mathlib.Omega.{arith}
 use Rattle.numbers.proofs.Says.{true≢false}
 use Rattle.screen.specs.declared.Screen.{Screen}
 use Rattle.screen.specs.Screen.{Allowed}
-use Rattle.screen.specs.Rectangle.{PartOf}
+use Rattle.screen.specs.Rectangle.{Inside}
 use Rattle.screen.proofs.Laws.{near_rises, far_rises}
 use Rattle.touch.specs.declared.Edges.{Edges}
 use Rattle.touch.specs.declared.Inward.{Inward}
@@ -27,7 +27,7 @@ module _ (d : Screen) (a : Allowed d) (q : Square) (n : 0 < q.exponent) {k : ℕ
   on_grid : StartsOnGrid d q
   on_grid = record { column = let c = g.column in omega arith; row = let r = g.row in omega arith }
 
-  inside : PartOf (square_rectangle d part) (square_rectangle d q)
+  inside : Inside (square_rectangle d part) (square_rectangle d q)
   inside =
       let w = halves q n in
       let x = bit≤ (k % 2) (2 ^ (q.exponent - 1)) (omega arith) in

@@ -12,7 +12,7 @@ use Rattle.numbers.proofs.Diff.{diff_pos, diff_le, diff_lt, ≤ℤ_trans, <ℤ-�
 use Rattle.numbers.proofs.Ceil.{same_mul, ceil_enough}
 use Rattle.screen.specs.declared.Screen.{Screen}
 use Rattle.screen.specs.Screen.{Allowed, across, columns, rows, tiles, column_of, row_of, tile_at}
-use Rattle.screen.specs.Rectangle.{side, near, far, rectangle_at, glass, PartOf, Proper, HasArea}
+use Rattle.screen.specs.Rectangle.{side, near, far, rectangle_at, glass, Inside, Proper, HasArea}
 use Rattle.screen.proofs.Sizes.{across≥, past_below}
 
 pos_le : {m n : ℕ} → m ≤ n → pos m ≤ℤ pos n
@@ -73,7 +73,7 @@ module _ (extent s : ℕ) where
 -- ---- the tiles of a screen
 
 module _ (d : Screen) (a : Allowed d) where
-  pub rectangle_on_the_glass : {column row : ℕ} → column < columns d → row < rows d → PartOf (rectangle_at d column row) (glass d)
+  pub rectangle_on_the_glass : {column row : ℕ} → column < columns d → row < rows d → Inside (rectangle_at d column row) (glass d)
   rectangle_on_the_glass {column} {row} hc hr = record {
     left = near≥ d.width d.s a.width≤ a.s≥ a.s≤ hc;
     right = far≤glass d.width d.s column;

@@ -1,6 +1,6 @@
 -- The contract of `meeting` settles which tiles a span has, and so the span itself where it has one; where it has none, any empty span will do.
 use mathlib.Core.Path.{◌≡◌}
-use Prim.Native.Nat.{ℕ, ◌-◌, ◌≤◌, ◌<◌}
+use Prim.Native.Nat.{ℕ, ◌-◌, ◌≤◌}
 use native.Mathlib.Omega.{arith}
 use lib.IntN.{ℤ}
 use Rattle.screen.specs.declared.Span.{Span}

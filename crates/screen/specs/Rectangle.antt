@@ -41,7 +41,7 @@ glass d =
     }
 
 -- the first of two rectangles lies within the second
-pub record PartOf (p q : Rectangle) : Type 0 where
+pub record Inside (p q : Rectangle) : Type 0 where
   pub left : q.left ≤ℤ p.left
   pub right : p.right ≤ℤ q.right
   pub top : q.top ≤ℤ p.top

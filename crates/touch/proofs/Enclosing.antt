@@ -7,7 +7,7 @@ use lib.IntN.{ℤ, pos, negsuc, ◌-ℤ◌, ◌*ℤ◌}
 use lib.Signed.{◌≤ℤ◌, ◌<ℤ◌}
 use Rattle.numbers.proofs.Diff.{diff_pos, diff_any, diff_mul, diff_sub, diff_le, le_diff, lt_diff, ≤ℤ_trans}
 use Rattle.screen.specs.declared.Rectangle.{Rectangle}
-use Rattle.screen.specs.Rectangle.{PartOf}
+use Rattle.screen.specs.Rectangle.{Inside}
 use Rattle.touch.specs.declared.Edge.{Edge}
 use Rattle.touch.specs.declared.RowEdge.{RowEdge}
 use Rattle.touch.specs.declared.RowEdges.{RowEdges}
@@ -102,7 +102,7 @@ module _ {third : ℤ} (c : ℤ) {u v w : ℤ} (h : u ≤ℤ v) (k : v ≤ℤ w)
   row_between (negsuc n) (OnSide.under t p) q = OnSide.under t (≤ℤ_trans (row_rises n c k) (under_side t q))
 
 -- and has any rectangle within it there
-module _ (e : Edge) {p q : Rectangle} (i : PartOf p q) (wide : p.left ≤ℤ p.right) (high : p.top ≤ℤ p.bottom) (h : OnSideOf e q) where
+module _ (e : Edge) {p q : Rectangle} (i : Inside p q) (wide : p.left ≤ℤ p.right) (high : p.top ≤ℤ p.bottom) (h : OnSideOf e q) where
   point_on_side : {x y : ℤ} → q.left ≤ℤ x → x ≤ℤ q.right → q.top ≤ℤ y → y ≤ℤ q.bottom
       → OnSide e.third ((x -ℤ e.x) *ℤ e.dy -ℤ (y -ℤ e.y) *ℤ e.dx)
   point_on_side {x} {y} l r t b =

@@ -10,7 +10,7 @@ use Rattle.numbers.proofs.Diff.{≤ℤ_trans, times_rises}
 use Rattle.screen.specs.declared.Rectangle.{Rectangle}
 use Rattle.screen.specs.declared.Screen.{Screen}
 use Rattle.screen.specs.Screen.{Allowed, columns, rows, tiles, tile_at}
-use Rattle.screen.specs.Rectangle.{near, far, rectangle_at, rectangle, glass, PartOf}
+use Rattle.screen.specs.Rectangle.{near, far, rectangle_at, rectangle, glass, Inside}
 use Rattle.screen.proofs.Laws.{near_rises, far_rises, near_first, far_last, rectangle_on_the_glass, columns≥, rows≥, column<, row<, column_is, row_is, tile<}
 use Rattle.screen.proofs.Axis.{LiesIn, between_tiles}
 use Rattle.shape.specs.declared.Shape.{Shape}
@@ -35,7 +35,7 @@ module _ (shape : Shape) where
       }
 
 -- what touches a rectangle touches a wider one
-pub wider : {shape : Shape} {p q : Rectangle} → PartOf p q → Touches shape p → Touches shape q
+pub wider : {shape : Shape} {p q : Rectangle} → Inside p q → Touches shape p → Touches shape q
 wider {shape} w h =
     let m = h.mean in
     touches_with shape h

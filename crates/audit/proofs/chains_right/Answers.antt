@@ -1,0 +1,41 @@
+-- `audit::chains_right` says whether all chains are right: the marks of the tiles and of the free chain together are 1 at every block.
+use mathlib.Core.Path.{refl}
+use native.Mathlib.Omega.{arith}
+use Rattle.numbers.proofs.Says.{says_no, says_iff}
+use Rattle.pool.specs.Words.{header_word}
+use Rattle.pool.specs.Editions.{layout_for}
+use Rattle.audit.specs.Walk.{WalkSays}
+use Rattle.audit.proofs.Passing.{zeros}
+use Rattle.audit.proofs.Reading.{of_free}
+use Rattle.audit.proofs.chains_right.Goals as goal
+use Rattle.audit.proofs.chains_right.Goals.{After-walk}
+
+-- what the walk along the free blocks says, of the words of the header
+told : (c : After-walk) → let a = c.args in
+    WalkSays (layout_for a.layout) a.pool.now a.from c.args.blocks (header_word a.pool.now 5) 0 (header_word a.pool.now 4)
+    c.tiles_right.new.marks c.walk.new.marks c.walk.result
+unfolding header_word
+told c =
+    let a = c.args in
+    of_free (layout_for a.layout) a.pool.now a.from c.args.blocks c.tiles_right.new.marks c.walk.new.marks c.walk.result refl
+    c.wide.ensures c.walk.ensures
+
+pub returns-then-not-tiles_right : goal.returns-then-not-tiles_right
+returns-then-not-tiles_right c =
+    says_no (λ h.
+    c.tiles_right.ensures.no c.if-not-tiles_right.true h.tiles (λ b lt. omega (arith, zeros 2048 b, h.once b lt)))
+
+pub returns-in_default : goal.returns-in_default
+returns-in_default c =
+    let t = c.tiles_right.ensures.yes c.if-not-tiles_right.false in
+    let x = rw c.in_default.is at (told (goal.at.returns-in_default c).After-walk) in
+    says_no (λ h. x h.free (λ b lt. omega (arith, zeros 2048 b, t.1 b, h.once b lt)))
+
+pub returns : goal.returns
+returns c =
+    let t = c.tiles_right.ensures.yes c.if-not-tiles_right.false in
+    let x = rw c.in-Ends.is at (told (goal.at.returns c).After-walk) in
+    says_iff
+    (λ all. record { tiles = t.0; free = x.run; once = λ b lt. omega (arith, zeros 2048 b, t.1 b, x.marked b, all b (omega arith)) })
+    (λ h b lt. omega (arith, zeros 2048 b, t.1 b, x.marked b, h.once b (omega arith)))
+    c.all_marked.ensures

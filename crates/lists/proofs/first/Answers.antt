@@ -1,0 +1,10 @@
+-- `first`: the tile's second word.
+use native.Mathlib.Omega.{arith}
+use Rattle.lists.proofs.Reaches.{tile_in}
+use Rattle.lists.proofs.first.Goals as goal
+
+pub tile_word-requires : goal.tile_word-requires
+tile_word-requires c = tile_in c.requires (omega arith)
+
+pub returns : goal.returns
+returns c = c.tile_word.ensures

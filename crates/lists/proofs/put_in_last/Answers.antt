@@ -1,0 +1,41 @@
+-- `put_in_last`: its stores are those of `append_in`.
+use mathlib.Core.Path.{ap, ◌∙◌}
+use Prim.Native.Nat.{◌-◌}
+use native.Mathlib.Nat.{mod-lt}
+use lib.ListN.{length, length-set}
+use Rattle.pool.specs.Editions.{layout_for}
+use Rattle.lists.specs.Reach.{BlockIn}
+use Rattle.lists.proofs.Reaches.{block_reach}
+use Rattle.pool.specs.Words.{tile_set, block_set}
+use Rattle.lists.specs.Appending.{counted, append_in}
+use native.Mathlib.Omega.{arith}
+use Rattle.lists.proofs.put_in_last.Goals as goal
+use Rattle.lists.proofs.put_in_last.Goals.{After-remainder}
+
+-- the place of the id lies in the pool
+place_in : (c : After-remainder) → let a = c.args in
+    BlockIn (layout_for a.layout) a.tiles a.pool.now (c.tile_word-last.result - 1) c.remainder.result
+place_in c =
+    rw (c.tile_word-last.ensures, c.remainder.ensures)
+    (block_reach _ _ c.args.pool.now _ _ c.requires.block (omega (arith, mod-lt c.wide.result c.requires.sized.fair.ids>)))
+
+pub remainder-requires : goal.remainder-requires
+remainder-requires c = c.requires.sized
+
+pub block_index-requires : goal.block_index-requires
+block_index-requires c = omega (arith, place_in (goal.at.block_index-requires c).After-remainder)
+
+pub offset_bounds-pool-block_index : goal.offset_bounds-pool-block_index
+offset_bounds-pool-block_index c = omega (arith, place_in (goal.at.offset_bounds-pool-block_index c).After-remainder, c.block_index.ensures)
+
+pub bounds-pool-block_index : goal.bounds-pool-block_index
+bounds-pool-block_index c = omega (arith, place_in (goal.at.bounds-pool-block_index c).After-remainder, c.block_index.ensures)
+
+pub shape_of-pool : goal.shape_of-pool
+unfolding counted tile_set
+shape_of-pool c = ap length c.set_entries.ensures ∙ simp length-set
+
+pub returns : goal.returns
+unfolding append_in tile_set block_set
+returns c =
+    rw (c.set_entries.ensures, c.block_index.ensures, c.remainder.ensures, c.wide.ensures, c.tile_word-last.ensures, c.tile_word-entries.ensures)

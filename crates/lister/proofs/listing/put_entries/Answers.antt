@@ -1,6 +1,6 @@
 -- `put_entries`: what remains is the text of the entries from k on.
-use Prim.Native.Nat.{◌+◌, ◌≤◌}
-use lib.ListN.{length, get_or, drop, drop_of_length-le}
+use Prim.Native.Nat.{◌+◌}
+use lib.ListN.{get_or, drop, drop_of_length-le}
 use native.Mathlib.Omega.{arith}
 use Rattle.lister.specs.Listing.{entry_text, entries_text}
 use Rattle.lister.proofs.Lines.{entries_text-next}

@@ -1,5 +1,5 @@
 -- `put_entry`: the id after a space is the text where the flag is not set; where it is, a star behind it makes the text.
-use mathlib.Core.Path.{◌≡◌, sym, ap, ◌∙◌}
+use mathlib.Core.Path.{sym, ap, ◌∙◌}
 use lib.ListN.{length, length-append}
 use native.Mathlib.Omega.{arith}
 use Rattle.lister.specs.Listing.{entry_text}

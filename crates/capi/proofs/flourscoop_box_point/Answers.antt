@@ -1,8 +1,0 @@
--- `capi::flourscoop_box_point` meets its contract: it answers as box_cover does, of the vertices as they were given.
-use Rattle.capi.proofs.Kept.{kept}
-use Rattle.capi.proofs.flourscoop_box_point.Goals as goal
-
-pub returns : goal.returns
-returns c =
-    let fits = c.ranges in
-    rw (kept fits.x1 fits.y1) at c.box_cover.ensures

@@ -1,8 +1,0 @@
--- `capi::flourscoop_corner_point` meets its contract: it answers as corner_cover does, of the vertices as they were given.
-use Rattle.capi.proofs.Kept.{kept}
-use Rattle.capi.proofs.flourscoop_corner_point.Goals as goal
-
-pub returns : goal.returns
-returns c =
-    let fits = c.ranges in
-    rw (kept fits.x1 fits.y1) at c.corner_cover.ensures

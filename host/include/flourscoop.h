@@ -289,7 +289,7 @@ static inline const char *flourscoop_number_text(uint32_t number)
     case FLOURSCOOP_NO_TILE: return "there is no such tile";
     case FLOURSCOOP_NO_PLACE: return "the place is at or past the tile's number of entries";
     case FLOURSCOOP_BUFFER: return "a buffer that was lent to be written is too short";
-    case FLOURSCOOP_LIST: return "the list is too long, too short or not of whole shapes, or a kind or an unused word is wrong";
+    case FLOURSCOOP_LIST: return "the list is too long or not of whole shapes, or a kind or an unused word is wrong";
     default: return "no call returns this number";
     }
 }

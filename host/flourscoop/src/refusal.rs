@@ -42,7 +42,7 @@ refusals! {
     NoTile 9 "there is no such tile"
     NoPlace 10 "the place is at or past the tile's number of entries"
     Buffer 11 "a buffer that was lent to be written is too short"
-    List 15 "the list is too long, too short or not of whole shapes, or a kind or an unused word is wrong"
+    List 15 "the list is too long or not of whole shapes, or a kind or an unused word is wrong"
 }
 
 impl Refusal {

@@ -34,11 +34,11 @@
  * STACK, in bytes, as measured, on Arm in an emulator; of those of bin, bin_list and overlaps, 16,384 list the touched
  * tiles; that of map is for a grid of 512 columns or rows, and less for a smaller one
  *               bin     bin_list  overlaps  map    audit  read   read_list  read_all  counts
- *     x86-64    18,944  18,816    17,008    5,376  2,320  2,368  2,368      2,416     2,384
- *     Arm       18,880  18,800    16,928    5,504  2,272  2,320  2,320      2,352     2,336
+ *     x86-64    18,944  18,800    17,408    3,024  2,288  2,336  2,352      2,384     2,352
+ *     Arm       18,928  18,800    17,264    2,304  2,272  2,320  2,320      2,352     2,336
  *               high_water  release  corner  inside  box  open, open_two  unit
- *     x86-64    2,352       2,384    432     192     240  128             16
- *     Arm       2,304       2,304    304     96      224  128             32
+ *     x86-64    2,320       2,368    448     224     240  144             16
+ *     Arm       2,304       2,304    320     112     224  144             32
  *
  * SCREEN AND UNITS
  *   A screen has a width and a height of 1 to 4,096 pixels. A tile is a square of 2^s by 2^s pixels, s from 3 to 6, cut

@@ -1,37 +1,51 @@
 -- What an answer of the audit settles: it is the only one, and the header of a sound pool fits the slice.
 use mathlib.Core.Path.{◌≡◌, refl, ap, sym, ◌∙◌}
+use mathlib.Core.Bool.{true, Bool-set}
+use mathlib.Core.HLevel.{is_prop→PathP}
 use mathlib.Core.List.{List}
 use Prim.Native.Nat.{ℕ, suc, ◌+◌, ◌*◌, ◌≤◌}
 use lib.ListN.{length}
-use Rattle.pool.specs.Words.{Layout, start, room}
+use Rattle.std.specs.Prelude.{Option, Some, None}
+use Rattle.std.proofs.Props.{props}
+use Rattle.screen.specs.declared.Grid.{Grid}
+use Rattle.screen.specs.Screen.{Allowed}
+use Rattle.pool.specs.Words.{Layout, is_edition, start, room}
 use Rattle.pool.specs.Editions.{layout_for}
-use Rattle.pool.specs.declared.Edition.{Edition}
+use Rattle.pool.specs.declared.edition.Edition.{Edition}
 use Rattle.pool.specs.Sound.{Opened}
 use Rattle.audit.specs.Answer.{HeaderOf, AuditFinds}
 use Rattle.audit.specs.declared.Header.{Header}
-use Rattle.audit.specs.declared.Audited.{Audited}
-use Rattle.audit.specs.declared.Audited.TheVariants.{Sound, Damaged}
 
--- a layout is that of one edition
+-- a layout is that of one edition, and a screen that of one grid
 same_layout : {e f : Edition} → layout_for e ≡ layout_for f → e ≡ f
-same_layout h = λ i. record { header = (h i).header; ids = (h i).ids }
+same_layout {e} {f} h = λ i. record {
+  header = (h i).header;
+  ids = (h i).ids;
+  known = is_prop→PathP (λ j. is_edition (h j).header (h j).ids ≡ true) (λ j. Bool-set _ _) e.known f.known i;
+}
+
+same_grid : {g h : Grid} → g.screen ≡ h.screen → g ≡ h
+same_grid {g} {h} e = λ i. record {
+  screen = e i;
+  allowed = is_prop→PathP (λ j. Allowed (e j)) (λ j. Prim.hlevel props) g.allowed h.allowed i;
+}
 
 -- the words have one header
 pub header_once : {L : Layout} {p : List ℕ} {g h : Header} → HeaderOf L p g → HeaderOf L p h → g ≡ h
-header_once a b = λ i. record {
-  layout = same_layout (a.layout ∙ sym b.layout) i;
-  screen = (a.screen ∙ sym b.screen) i;
+header_once {g = g} {h = h} a b = λ i. record {
+  layout = same_layout {e = g.layout} {f = h.layout} (a.layout ∙ sym b.layout) i;
+  grid = same_grid {g = g.grid} {h = h.grid} (a.screen ∙ sym b.screen) i;
   tiles = (a.tiles ∙ sym b.tiles) i;
   blocks = (a.blocks ∙ sym b.blocks) i;
   start = (a.start ∙ sym b.start) i;
 }
 
 -- and one answer
-pub answer_once : (p : List ℕ) (x y : Audited) → AuditFinds p x → AuditFinds p y → x ≡ y
-answer_once p (Sound g) (Sound h) a b = ap Sound (header_once a.1 b.1)
-answer_once p (Sound g) Damaged a b = absurd (b a.0)
-answer_once p Damaged (Sound h) a b = absurd (a b.0)
-answer_once p Damaged Damaged a b = refl
+pub answer_once : (p : List ℕ) (x y : Option Header) → AuditFinds p x → AuditFinds p y → x ≡ y
+answer_once p (Some g) (Some h) a b = ap Some (header_once a.1 b.1)
+answer_once p (Some g) None a b = absurd (b a.0)
+answer_once p None (Some h) a b = absurd (a b.0)
+answer_once p None None a b = refl
 
 -- the sizes that a right header gives
 pub record Fits (L : Layout) (p : List ℕ) (h : Header) : Type 0 where

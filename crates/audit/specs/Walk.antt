@@ -1,11 +1,9 @@
 -- What the parts of the audit find in the words of a pool, whose blocks start at `from`.
-use Rattle.std.specs.Prelude.{◌≡◌, Bool, true, false, List, ℕ, suc, ◌+◌, ◌*◌, ◌<◌, ◌≤◌, get_or}
+use Rattle.std.specs.Prelude.{◌≡◌, Option, Some, None, Bool, true, false, List, ℕ, suc, ◌+◌, ◌*◌, ◌<◌, ◌≤◌, get_or}
 use Rattle.numbers.specs.Ceil.{ceil}
 use Rattle.pool.specs.Words.{Layout, header_word, tile_word}
 use Rattle.pool.specs.State.{last_link, times}
 use Rattle.audit.specs.Chain.{follow, next, Run, times_in_first}
-use Rattle.audit.specs.declared.Walked.{Walked}
-use Rattle.audit.specs.declared.Walked.TheVariants.{Broken, Ends}
 
 -- where tile t starts
 abbrev pub tile_start : Layout → (t : ℕ) → ℕ
@@ -49,9 +47,9 @@ module _ (L : Layout) (p : List ℕ) (from : ℕ) where
       pub marked : Marked v w (λ b. times b (chain_from s link))
 
     -- the s blocks from `link` on are a chain with q entries, whose blocks were not marked and now are; or they are none
-    abbrev pub WalkSays : Walked → Type 0
-    WalkSays Broken = Run L (block_word_from L p from) n link q s → Apart n v (λ b. times b (chain_from s link)) → ⊥
-    WalkSays (Ends last) = Walks last
+    abbrev pub WalkSays : Option ℕ → Type 0
+    WalkSays None = Run L (block_word_from L p from) n link q s → Apart n v (λ b. times b (chain_from s link)) → ⊥
+    WalkSays (Some last) = Walks last
 
   -- the blocks of tile t, as many as its entries need
   abbrev pub chain_of : (t : ℕ) → List ℕ

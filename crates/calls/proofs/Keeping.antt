@@ -20,7 +20,7 @@ use Rattle.audit.specs.Answer.{HeaderOf}
 use Rattle.lists.specs.Appending.{need, append_all}
 use Rattle.lists.specs.Promises.{Kept, Appended}
 use Rattle.lists.proofs.Several.{kept-keeps, append_all_appends}
-use Rattle.calls.specs.declared.Binned.{Binned}
+use Rattle.calls.specs.Told.{Binned}
 use Rattle.calls.specs.Tables.{free_in, PlaceSays, BinSays}
 use Rattle.calls.proofs.Placing.{touched_distinct}
 

@@ -4,3 +4,5 @@ pub mod Causes
 pub mod Keeping
 pub mod OneByOne
 pub mod Units
+pub mod Asking
+pub mod OneAnswer

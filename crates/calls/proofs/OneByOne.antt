@@ -1,32 +1,27 @@
--- Shapes binned one by one: none of them, and one more with its byte. No answer is more than a byte.
-use mathlib.Core.Path.{◌≡◌, refl, ap, subst, ◌∙◌}
+-- Shapes binned one by one: one more, with its byte.
+use mathlib.Core.Path.{◌≡◌, refl, subst, ◌∙◌}
 use mathlib.Core.List.{List}
 use Prim.Native.Nat.{ℕ, zero, suc, ◌+◌, ◌≤◌, ◌<◌}
 use native.Mathlib.Omega.{arith}
 use lib.IntN.{ℤ}
 use lib.ListN.{length, get_or, set, length-set}
 use lib.Seq.{get_or-set_same, get_or-set_other}
+use Rattle.std.specs.Prelude.{Result, Ok, Err}
+use Rattle.numbers.specs.declared.Refusal.{Refusal}
+use Rattle.numbers.specs.Refusal.{number_in}
 use Rattle.shape.specs.declared.Shape.{Shape}
 use Rattle.shapes.specs.Shapes.{shape_at}
 use Rattle.audit.specs.declared.Header.{Header}
-use Rattle.calls.specs.declared.Binned.{Binned}
-use Rattle.calls.specs.Tables.{PlaceSays, BinSays}
+use Rattle.calls.specs.declared.Binned as bin
+use Rattle.calls.specs.Told.{told_bin}
+use Rattle.calls.specs.Tables.{BinSays}
 use Rattle.calls.specs.BinList.{id_at, BinNumber, OneByOne}
 use Rattle.calls.proofs.Keeping.{SoundWith, bin_keeps}
 
-module _ {p : List ℕ} {shape : Shape} {id : ℕ} {a : Binned} {q : List ℕ} where
-  place_number : PlaceSays p shape id a q → a.number ≤ 8
-  place_number (PlaceSays.no_room ts T l e f) = omega (arith, ap (λ (b : Binned). b.number) e)
-  place_number (PlaceSays.done ts T l flag F tests C e f) = omega (arith, ap (λ (b : Binned). b.number) e)
-
-  bin_number : BinSays p shape id a q → a.number ≤ 8
-  bin_number (BinSays.damaged n e f) = omega (arith, ap (λ (b : Binned). b.number) e)
-  bin_number (BinSays.bad_id S i e f) = omega (arith, ap (λ (b : Binned). b.number) e)
-  bin_number (BinSays.out_of_range S i o e f) = omega (arith, ap (λ (b : Binned). b.number) e)
-  bin_number (BinSays.placed S i o w) = place_number w
-
-pub in_a_byte : {p : List ℕ} {shape : Shape} {id number : ℕ} {q : List ℕ} → BinNumber p shape id number q → number ≤ 8
-in_a_byte B = omega (arith, B.is, bin_number B.says)
+-- a bin's answer has its number
+pub numbered : {p : List ℕ} {shape : Shape} {id : ℕ} (r : Result bin.Binned Refusal) {q : List ℕ} → BinSays p shape id (told_bin r) q → BinNumber p shape id (number_in r) q
+numbered (Ok b) s = record { answer = told_bin (Ok b); says = s; is = refl }
+numbered (Err n) s = record { answer = told_bin (Err n); says = s; is = refl }
 
 -- only the bytes of the shapes themselves matter
 same_bytes : (ws : List ℤ) (bytes others p : List ℕ) (n : ℕ) (q : List ℕ) → ((k : ℕ) → k < n → get_or others k 0 ≡ get_or bytes k 0)
@@ -45,9 +40,6 @@ module _ (h : Header) (ws : List ℤ) (old p : List ℕ) where
     pub each : OneByOne ws bytes n p q
     pub long : length bytes ≡ length old
     pub past : (i : ℕ) → n ≤ i → get_or bytes i 0 ≡ get_or old i 0
-
-  pub along_none : SoundWith h p → Along 0 old p
-  along_none k = record { told = k; each = refl; long = refl; past = λ i l. refl }
 
   pub along_more : {n : ℕ} {bytes m q : List ℕ} {number : ℕ} → Along n bytes m → n < length bytes → BinNumber m (shape_at 8 ws n) (id_at ws n) number q
       → Along (n + 1) (set bytes n number) q

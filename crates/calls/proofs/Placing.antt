@@ -10,7 +10,7 @@ use Rattle.numbers.specs.Flag.{flagged, plain, plains}
 use Rattle.numbers.proofs.Flag.{length-plains, get_or-plains}
 use Rattle.numbers.proofs.Says.{says_once}
 use Rattle.screen.specs.declared.Screen.{Screen}
-use Rattle.screen.specs.Screen.{Allowed, tiles}
+use Rattle.screen.specs.Screen.{tiles}
 use Rattle.shape.specs.declared.Shape.{Shape}
 use Rattle.walk.specs.Touched.{TouchedTiles, Walked, FlagsOf}
 use Rattle.walk.specs.Lists.{Flagged}
@@ -19,26 +19,24 @@ use Rattle.pool.specs.Editions.{layout_for}
 use Rattle.pool.specs.Sound.{Sound, screen_of, tiles_of}
 use Rattle.audit.specs.declared.Header.{Header}
 use Rattle.audit.specs.Answer.{HeaderOf}
+use Rattle.lists.specs.declared.Lists.{Lists}
 use Rattle.lists.specs.Appending.{Gained, Distinct}
 use Rattle.lists.specs.Reach.{AllAmong}
 use Rattle.lists.proofs.Named.{rising_distinct}
 use Rattle.lists.proofs.AppendLoop.{gained}
-use Rattle.calls.proofs.Audits.{carried_sound, carried_sized}
+use Rattle.calls.proofs.Audits.{lists_sound, lists_sized, lists_tiles}
 
 pub touched_distinct : {d : Screen} {shape : Shape} {ts : List ℕ} → TouchedTiles d shape ts → Distinct (tiles d) ts
 touched_distinct {ts} w = rising_distinct ts w.rising (λ i h. (w.touched i h).0)
 
 module _ {p : List ℕ} {h : Header} (S : Sound (layout_of p) p) (H : HeaderOf (layout_of p) p h) where
-  pub screen_allowed : Allowed h.screen
-  screen_allowed = subst Allowed (sym H.screen) S.opened.screen
-
-  module _ {shape : Shape} {n : ℕ} {old new : List ℕ} (W : Walked h.screen shape n old new) where
+  module _ {shape : Shape} {n : ℕ} {old new : List ℕ} (W : Walked h.grid.screen shape n old new) where
     pub touched_here : TouchedTiles (screen_of p) shape (plains (take n new))
     touched_here = subst (λ (d : Screen). TouchedTiles d shape (plains (take n new))) H.screen W.touched
 
     module _ (long : 4096 ≤ length old) where
-      fits : n ≤ length new
-      fits = omega (arith, W.few, W.size, screen_allowed.tiles≤)
+      pub fits : n ≤ length new
+      fits = omega (arith, W.few, W.size, h.grid.allowed.tiles≤)
 
       taken : length (take n new) ≡ n
       taken = length-take-le n new fits
@@ -60,14 +58,11 @@ module _ {p : List ℕ} {h : Header} (S : Sound (layout_of p) p) (H : HeaderOf (
           (ap (flagged id)
           (says_once (F (plain w) t<) (subst (λ (d : Screen). Flagged d shape w) H.screen (W.flags i l')))))
 
-      pub all_among : {T k : ℕ} → T ≡ h.tiles → k ≡ n → (k ≤ length new) × AllAmong (layout_for h.layout) p T (plains (take k new))
-      all_among {T} {k} e f =
-          let t : T ≡ tiles_of p = e ∙ H.tiles in (
-            omega (arith, fits),
-            record {
-              sound = carried_sound (S, H);
-              sized = carried_sized (S, H);
-              tiles = t;
-              distinct = rw (t, f) (touched_distinct touched_here);
-            },
-          )
+      pub all_among : {l : Lists} → (l.layout ≡ h.layout) × (l.tiles ≡ h.tiles) → AllAmong (layout_for l.layout) p l.tiles (plains (take n new))
+      all_among {l} m =
+          record {
+            sound = lists_sound (S, H) m;
+            sized = lists_sized (S, H) m;
+            tiles = lists_tiles (S, H) m;
+            distinct = subst (λ (T : ℕ). Distinct T (plains (take n new))) (sym (lists_tiles (S, H) m)) (touched_distinct touched_here);
+          }

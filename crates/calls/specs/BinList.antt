@@ -5,7 +5,7 @@ use Rattle.shape.specs.declared.Shape.{Shape}
 use Rattle.shapes.specs.Shapes.{RightList, count_of, words_at, shape_at}
 use Rattle.pool.specs.Words.{id_limit, layout_of}
 use Rattle.pool.specs.Sound.{Sound}
-use Rattle.calls.specs.declared.Binned.{Binned}
+use Rattle.calls.specs.Told.{Binned}
 use Rattle.calls.specs.Tables.{BinSays}
 
 -- ---- the list, eight words to a shape: the last of them is its id

@@ -5,8 +5,8 @@ use Rattle.pool.specs.Words.{layout_of}
 use Rattle.pool.specs.Sound.{Sound, tiles_of, blocks_of}
 use Rattle.pool.specs.Written.{written}
 use Rattle.frame.specs.Frame.{lists_of, starts_of}
-use Rattle.calls.specs.declared.Copied.{Copied}
-use Rattle.calls.specs.declared.PoolCounts.{PoolCounts}
+use Rattle.calls.specs.Told.{Copied}
+use Rattle.calls.specs.Told.{PoolCounts}
 use Rattle.calls.specs.Tables.{list_in, free_in}
 
 -- the lists of all tiles in the words p, one after the other

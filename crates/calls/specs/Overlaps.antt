@@ -7,7 +7,7 @@ use Rattle.shapes.specs.Shapes.{RightList, count_of, shape_at}
 use Rattle.overlaps.specs.declared.Totals.{Totals}
 use Rattle.overlaps.specs.Totals.{TotalsOf}
 use Rattle.overlaps.specs.Adding.{no_totals}
-use Rattle.calls.specs.declared.Counted.{Counted}
+use Rattle.calls.specs.Told.{Counted}
 
 abbrev pub not_counted : (number : ℕ) → Counted
 not_counted n = record { number = n; totals = no_totals }

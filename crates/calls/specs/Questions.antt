@@ -1,7 +1,10 @@
 -- The decision table of the question how a whole-number shape covers a tile of a screen, a row for each number in the order in which it is given:
 -- 1, 9, 7. A row has its cause, with no earlier one applying, and then the whole answer a.
-use Rattle.std.specs.Prelude.{◌≡◌, ℕ, ◌≤◌, ◌<◌}
+use Rattle.std.specs.Prelude.{◌≡◌, Result, Ok, Err, ℕ, ◌≤◌, ◌<◌}
+use Rattle.numbers.specs.declared.Refusal.{Refusal}
+use Rattle.numbers.specs.Refusal.{number_of}
 use Rattle.screen.specs.declared.Screen.{Screen}
+use Rattle.screen.specs.declared.Rectangle.{Rectangle}
 use Rattle.screen.specs.Screen.{Allowed, tiles}
 use Rattle.screen.specs.Rectangle.{rectangle}
 use Rattle.shape.specs.declared.Shape.{Shape}
@@ -9,9 +12,7 @@ use Rattle.shape.specs.Shape.{InRange}
 use Rattle.touch.specs.declared.Cover.{Cover}
 use Rattle.touch.specs.declared.Cover.TheVariants.{Apart}
 use Rattle.touch.specs.Cover.{CoverSays, BoxCoverSays}
-use Rattle.calls.specs.declared.Answered.{Answered}
-use Rattle.calls.specs.declared.Question.{Question}
-use Rattle.calls.specs.declared.Question.TheVariants.{Asked, Refused}
+use Rattle.calls.specs.Told.{Answered}
 
 -- the number n that the question is refused with
 pub data RefusedWith (d : Screen) (t : ℕ) (shape : Shape) (n : ℕ) : Type 0 where
@@ -26,14 +27,9 @@ pub record InOrder (d : Screen) (t : ℕ) (shape : Shape) : Type 0 where
   pub in_range : InRange shape
 
 -- the question may be put to the rectangle of the tile; or it is refused
-abbrev pub QuestionSays : (d : Screen) (t : ℕ) (shape : Shape) → Question → Type 0
-QuestionSays d t shape (Asked q) = InOrder d t shape × (q ≡ rectangle d t)
-QuestionSays d t shape (Refused n) = RefusedWith d t shape n
-
--- the answer to a question that is not put; the line for `Asked` is never reached, and stands there for the function to be whole
-abbrev pub not_asked : Question → Answered
-not_asked (Asked q) = record { number = 0; cover = Apart }
-not_asked (Refused n) = record { number = n; cover = Apart }
+abbrev pub QuestionSays : (d : Screen) (t : ℕ) (shape : Shape) → Result Rectangle Refusal → Type 0
+QuestionSays d t shape (Ok q) = InOrder d t shape × (q ≡ rectangle d t)
+QuestionSays d t shape (Err r) = RefusedWith d t shape (number_of r)
 
 -- refused, with nothing else said; or answered as P says
 pub data AnswerSays (P : Cover → Type 0) (d : Screen) (t : ℕ) (shape : Shape) (a : Answered) : Type 0 where

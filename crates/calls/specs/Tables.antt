@@ -1,25 +1,26 @@
 -- The decision tables of the public calls, a row for each number in the order in which it is given. A row has its cause, with no earlier one applying, and
 -- then the whole outcome: the answer a, and the words q that are left of the words p. These are read in the layout that they say. The table of open stands
 -- beside the words that it leaves, in the crate `pool`, and those of the questions about touching in Questions.
-use Rattle.std.specs.Prelude.{◌≡◌, Bool, false, List, ℕ, ◌≤◌, ◌<◌, length, get_or}
+use Rattle.std.specs.Prelude.{◌≡◌, Ok, Err, Bool, false, List, ℕ, ◌≤◌, ◌<◌, length, get_or}
 use Rattle.numbers.specs.Ceil.{ceil}
 use Rattle.numbers.specs.Flag.{flagged, plain, is_flagged}
+use Rattle.numbers.specs.declared.Refusal.{Refusal}
+use Rattle.numbers.specs.Refusal.{number_of}
 use Rattle.shape.specs.declared.Shape.{Shape}
 use Rattle.shape.specs.Shape.{InRange}
 use Rattle.walk.specs.Touched.{TouchedTiles, FlagsOf}
 use Rattle.stepping.specs.Stepped.{TestsSay}
 use Rattle.snap.specs.declared.PixelShape.{PixelShape}
-use Rattle.snap.specs.declared.SnappedShape.{SnappedShape}
 use Rattle.snap.specs.Shapes.{shape_of}
 use Rattle.pool.specs.Words.{id_limit, layout_of, header_word, tile_word}
 use Rattle.pool.specs.Sound.{Sound, screen_of, tiles_of}
 use Rattle.pool.specs.Lists.{list_of}
 use Rattle.lists.specs.Appending.{need, append_all}
 use Rattle.lists.specs.Releasing.{release}
-use Rattle.calls.specs.declared.Binned.{Binned}
-use Rattle.calls.specs.declared.Released.{Released}
-use Rattle.calls.specs.declared.Found.{Found}
-use Rattle.calls.specs.declared.HighWater.{HighWater}
+use Rattle.calls.specs.Told.{Binned}
+use Rattle.calls.specs.Told.{Released}
+use Rattle.calls.specs.Told.{Found}
+use Rattle.calls.specs.Told.{HighWater}
 
 -- the list of tile t in the words p: its entries, each an id with its flag
 abbrev pub list_in : List ℕ → (t : ℕ) → List ℕ
@@ -69,8 +70,8 @@ pub data CauseSays (shape : Shape) (id number : ℕ) : Type 0 where
 pub data BinPixelsSays (p : List ℕ) (shape : PixelShape) (id : ℕ) (a : Binned) (q : List ℕ) : Type 0 where
   damaged : (Sound (layout_of p) p → ⊥) → a ≡ refused_bin 4 → q ≡ p → BinPixelsSays p shape id a q
   bad_id : Sound (layout_of p) p → id_limit ≤ id → a ≡ refused_bin 5 → q ≡ p → BinPixelsSays p shape id a q
-  offence : Sound (layout_of p) p → id < id_limit → (n : ℕ) → shape_of shape ≡ SnappedShape.Refused n → a ≡ refused_bin n → q ≡ p → BinPixelsSays p shape id a q
-  placed : Sound (layout_of p) p → id < id_limit → (whole : Shape) → shape_of shape ≡ SnappedShape.Whole whole → PlaceSays p whole id a q → BinPixelsSays p shape id a q
+  offence : Sound (layout_of p) p → id < id_limit → (r : Refusal) → shape_of shape ≡ Err r → a ≡ refused_bin (number_of r) → q ≡ p → BinPixelsSays p shape id a q
+  placed : Sound (layout_of p) p → id < id_limit → (whole : Shape) → shape_of shape ≡ Ok whole → PlaceSays p whole id a q → BinPixelsSays p shape id a q
 
 abbrev pub not_found : (number : ℕ) → Found
 not_found n = record { number = n; id = 0; whole = false }

@@ -3,7 +3,7 @@ use Rattle.std.specs.Prelude.{◌≡◌, not, T, ℤ, pos, Float}
 use Rattle.std.specs.Float.Ieee.Scale.{finite}
 use Rattle.shape.specs.Shape.{InUnits}
 use Rattle.snap.specs.Unit.{HasUnit}
-use Rattle.calls.specs.declared.Rounded.{Rounded}
+use Rattle.calls.specs.Told.{Rounded}
 
 pub data UnitSays (v : Float) (a : Rounded) : Type 0 where
   not_finite : T (not (finite v)) → a ≡ record { number = 6; unit = pos 0 } → UnitSays v a

@@ -6,17 +6,17 @@ use Rattle.shape.specs.declared.Vertex.{Vertex}
 use Rattle.touch.specs.declared.Cover.{Cover}
 use Rattle.touch.specs.declared.Cover.TheVariants.{Apart, Partly, Wholly}
 use Rattle.snap.specs.declared.PixelVertex.{PixelVertex}
-use Rattle.calls.specs.declared.Rounded.{Rounded}
-use Rattle.calls.specs.declared.Binned.{Binned}
-use Rattle.calls.specs.declared.Released.{Released}
-use Rattle.calls.specs.declared.Found.{Found}
-use Rattle.calls.specs.declared.Copied.{Copied}
-use Rattle.calls.specs.declared.PoolCounts.{PoolCounts}
-use Rattle.calls.specs.declared.HighWater.{HighWater}
-use Rattle.calls.specs.declared.Answered.{Answered}
-use Rattle.calls.specs.declared.Counted.{Counted}
+use Rattle.calls.specs.Told.{Rounded}
+use Rattle.calls.specs.Told.{Binned}
+use Rattle.calls.specs.Told.{Released}
+use Rattle.calls.specs.Told.{Found}
+use Rattle.calls.specs.Told.{Copied}
+use Rattle.calls.specs.Told.{PoolCounts}
+use Rattle.calls.specs.Told.{HighWater}
+use Rattle.calls.specs.Told.{Answered}
+use Rattle.calls.specs.Told.{Counted}
 use Rattle.overlaps.specs.declared.Totals.{Totals}
-use Rattle.inside.specs.declared.Nested.{Nested}
+use Rattle.inside.specs.Inside.{Nested}
 
 abbrev pub screen : (width height s : ℕ) → Screen
 screen width height s = record { width = width; height = height; s = s }

@@ -12,7 +12,6 @@ use Rattle.numbers.specs.Ceil.{ceil}
 use Rattle.numbers.proofs.Ceil.{eq_or_ne}
 use Rattle.numbers.specs.Flag.{flagged}
 use Rattle.screen.specs.declared.Screen.{Screen}
-use Rattle.screen.specs.Screen.{tiles}
 use Rattle.shape.specs.declared.Shape.{Shape}
 use Rattle.stepping.specs.Stepped.{TestsSay}
 use Rattle.snap.specs.declared.PixelShape.{PixelShape}
@@ -26,9 +25,9 @@ use Rattle.lists.specs.Releasing.{release}
 use Rattle.lists.specs.Steps.{append_all_state, release_state}
 use Rattle.lists.specs.Wider.{Wider}
 use Rattle.lists.proofs.Widening.{wider_tiles, wider_sound, wider_sound', wider_lists, wider_marks, wider_need, wider_free, wider_append_all, wider_release}
-use Rattle.calls.specs.declared.Binned.{Binned}
-use Rattle.calls.specs.declared.Released.{Released}
-use Rattle.calls.specs.declared.Found.{Found}
+use Rattle.calls.specs.Told.{Binned}
+use Rattle.calls.specs.Told.{Released}
+use Rattle.calls.specs.Told.{Found}
 use Rattle.calls.specs.Tables.{PlaceSays, BinSays, BinPixelsSays, ReadSays, ReleaseSays, list_in, mark_in}
 use Rattle.demands.specs.History.{Entry, binned, binned_pixels, found, released, number_of, Step, Run, less_room}
 use Rattle.calls.proofs.Keeping.{entry_in_range}

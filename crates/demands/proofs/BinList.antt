@@ -14,7 +14,7 @@ use Rattle.shape.specs.declared.Shape.{Shape}
 use Rattle.shapes.specs.Shapes.{count_of, shape_at}
 use Rattle.pool.specs.Words.{id_limit, layout_of, room}
 use Rattle.pool.specs.Sound.{Sound}
-use Rattle.calls.specs.declared.Binned.{Binned}
+use Rattle.calls.specs.Told.{Binned}
 use Rattle.calls.specs.Tables.{PlaceSays, BinSays, refused_bin}
 use Rattle.calls.specs.BinList.{id_from, id_at, OneByOne, AllBinned, BinListSays, damaged, bad_list, too_few, done}
 use Rattle.demands.specs.History.{Entry, binned, binned_pixels, found, released, number_of, Step, Run, less_room}

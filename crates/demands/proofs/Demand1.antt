@@ -5,8 +5,8 @@ use mathlib.Core.Bool.{false}
 use mathlib.Core.List.{List, [], ◌∷◌}
 use Prim.Native.Nat.{ℕ, ◌<◌}
 use native.Mathlib.Omega.{arith}
+use Rattle.numbers.specs.Refusal as reason
 use Rattle.screen.specs.declared.Screen.{Screen}
-use Rattle.screen.specs.Screen.{tiles}
 use Rattle.shape.specs.declared.Shape.{Shape}
 use Rattle.snap.specs.declared.PixelShape.{PixelShape}
 use Rattle.snap.proofs.Shapes.{refused_six_or_seven}
@@ -15,12 +15,12 @@ use Rattle.pool.specs.Sound.{Sound, tiles_of, blocks_of}
 use Rattle.pool.proofs.Editions.{layout_fair}
 use Rattle.pool.proofs.Opening.{header_fits, opening-length, opening-tail}
 use Rattle.lists.proofs.Releases.{release_releases}
-use Rattle.calls.specs.declared.Binned.{Binned}
-use Rattle.calls.specs.declared.Released.{Released}
-use Rattle.calls.specs.declared.Found.{Found}
-use Rattle.calls.specs.declared.HighWater.{HighWater}
+use Rattle.calls.specs.Told.{Binned}
+use Rattle.calls.specs.Told.{Released}
+use Rattle.calls.specs.Told.{Found}
+use Rattle.calls.specs.Told.{HighWater}
 use Rattle.touch.specs.declared.Cover.{Cover}
-use Rattle.calls.specs.declared.Answered.{Answered}
+use Rattle.calls.specs.Told.{Answered}
 use Rattle.pool.specs.Opening.{OpenSays}
 use Rattle.calls.specs.Tables.{AuditSays, PlaceSays, BinSays, BinPixelsSays, ReadSays, HighWaterSays, ReleaseSays, refused_bin, not_found}
 use Rattle.calls.specs.Questions.{RefusedWith, AnswerSays, BoxSays, CornerSays}
@@ -66,7 +66,8 @@ bin_1 (BinSays.placed S i o w) =
 bin_pixels_1 : {p : List ℕ} {shape : PixelShape} {id : ℕ} {a : Binned} {q : List ℕ} → BinPixelsSays p shape id a q → Demand1 p (binned_pixels shape id a) q
 bin_pixels_1 (BinPixelsSays.damaged n e f) = refusal 4 (number_of_lem e) (omega arith) (inl refl) (zeros e) f
 bin_pixels_1 (BinPixelsSays.bad_id S i e f) = refusal 5 (number_of_lem e) (omega arith) (inr (inl refl)) (zeros e) f
-bin_pixels_1 {shape = shape} (BinPixelsSays.offence S i n o e f) =
+bin_pixels_1 {shape = shape} (BinPixelsSays.offence S i r o e f) =
+    let n : ℕ = reason.number_of r in
     ⊎_elim (λ (s : n ≡ 6). refusal n (number_of_lem e) (omega arith) (inr (inr (inl s))) (zeros e) f)
     (λ (s : n ≡ 7). refusal n (number_of_lem e) (omega arith) (inr (inr (inr (inl s)))) (zeros e) f)
     (refused_six_or_seven shape o)

@@ -21,7 +21,9 @@ use Rattle.walk.proofs.Exists.{flags_exist}
 use Rattle.stepping.specs.Stepped.{TestsSay}
 use Rattle.stepping.proofs.Exists.{tests_exist}
 use Rattle.snap.specs.declared.PixelShape.{PixelShape}
-use Rattle.snap.specs.declared.SnappedShape.{SnappedShape}
+use Rattle.std.specs.Prelude.{Ok, Err}
+use Rattle.numbers.specs.declared.Refusal.{Refusal}
+use Rattle.numbers.specs.Refusal.{number_of}
 use Rattle.snap.specs.Shapes.{shape_of}
 use Rattle.snap.proofs.Shapes.{SixOrSeven, refused_six_or_seven, whole_in_range}
 use Rattle.pool.specs.Words.{Layout, id_limit, layout_of, tile_word}
@@ -35,8 +37,8 @@ use Rattle.lists.specs.Steps.{release_state}
 use Rattle.lists.specs.Promises.{Appended}
 use Rattle.lists.proofs.Gives.{times-onto}
 use Rattle.lists.proofs.Releases.{release_releases}
-use Rattle.calls.specs.declared.Binned.{Binned}
-use Rattle.calls.specs.declared.Released.{Released}
+use Rattle.calls.specs.Told.{Binned}
+use Rattle.calls.specs.Told.{Released}
 use Rattle.calls.specs.Tables.{PlaceSays, BinSays, BinPixelsSays, ReleaseSays, refused_bin, list_in}
 use Rattle.calls.proofs.Keeping.{bin_appends, kept_layout}
 use Rattle.demands.specs.Demand2.{StaysSound, NoRoom, HasRoom, gained, Listed, Demand2Bin, Demand2Pixels, Emptied, Demand2Release}
@@ -160,10 +162,10 @@ module _ {p : List ℕ} {shape : Shape} {id : ℕ} {a : Binned} {q : List ℕ} w
 -- ---- bin of a shape in pixels
 
 -- the shape is refused with 6 or 7
-offence_other : (shape : PixelShape) {C : Type 0} {a : Binned} {m n : ℕ} → shape_of shape ≡ SnappedShape.Refused m → a ≡ refused_bin m → a.number ≡ n
-    → 6 ≢ n → 7 ≢ n → C
-offence_other shape {C} {a} {m} {n} o e z n6 n7 =
-    ⊎_elim (λ (s : m ≡ 6). other e z (λ u. n6 (sym s ∙ u))) (λ (s : m ≡ 7). other e z (λ u. n7 (sym s ∙ u))) (refused_six_or_seven shape o)
+offence_other : (shape : PixelShape) {C : Type 0} {a : Binned} {r : Refusal} {n : ℕ} → shape_of shape ≡ Err r → a ≡ refused_bin (number_of r)
+    → a.number ≡ n → 6 ≢ n → 7 ≢ n → C
+offence_other shape {C} {a} {r} {n} o e z n6 n7 =
+    ⊎_elim (λ (s : number_of r ≡ 6). other e z (λ u. n6 (sym s ∙ u))) (λ (s : number_of r ≡ 7). other e z (λ u. n7 (sym s ∙ u))) (refused_six_or_seven shape o)
 
 module _ {p : List ℕ} {shape : PixelShape} {id : ℕ} {a : Binned} {q : List ℕ} where
   pixels_not_damaged : Sound (layout_of p) p → BinPixelsSays p shape id a q → a.number ≢ 4
@@ -179,24 +181,23 @@ module _ {p : List ℕ} {shape : PixelShape} {id : ℕ} {a : Binned} {q : List �
   pixels_bad_id (BinPixelsSays.placed S i whole o w) z = absurd (place_other w z (omega arith) (omega arith))
 
   pixels_offence : Sound (layout_of p) p → BinPixelsSays p shape id a q → (n : ℕ) → SixOrSeven n → a.number ≡ n
-      → (id < id_limit) × (shape_of shape ≡ SnappedShape.Refused n)
+      → (id < id_limit) × ((r : Refusal) × (shape_of shape ≡ Err r) × (number_of r ≡ n))
   pixels_offence S (BinPixelsSays.damaged d e f) n s z = absurd (d S)
   pixels_offence S (BinPixelsSays.bad_id S' i e f) n s z =
       ⊎_elim (λ (u : n ≡ 6). other e z (omega arith)) (λ (u : n ≡ 7). other e z (omega arith)) s
   pixels_offence S (BinPixelsSays.offence S' i m o e f) n s z =
-      let u : m ≡ n = sym (ap (λ (b : Binned). b.number) e) ∙ z in
-      (i, o ∙ ap SnappedShape.Refused u)
+      (i, (m, o, sym (ap (λ (b : Binned). b.number) e) ∙ z))
   pixels_offence S (BinPixelsSays.placed S' i whole o w) n s z =
       ⊎_elim (λ (u : n ≡ 6). absurd (place_other w z (omega arith) (omega arith))) (λ (u : n ≡ 7). absurd (place_other w z (omega arith) (omega arith))) s
 
-  pixels_no_room : BinPixelsSays p shape id a q → a.number ≡ 8 → (whole : Shape) × (shape_of shape ≡ SnappedShape.Whole whole) × NoRoom p whole id
+  pixels_no_room : BinPixelsSays p shape id a q → a.number ≡ 8 → (whole : Shape) × (shape_of shape ≡ Ok whole) × NoRoom p whole id
   pixels_no_room (BinPixelsSays.damaged n e f) z = other e z (omega arith)
   pixels_no_room (BinPixelsSays.bad_id S i e f) z = other e z (omega arith)
   pixels_no_room (BinPixelsSays.offence S i n o e f) z = offence_other shape o e z (omega arith) (omega arith)
   pixels_no_room (BinPixelsSays.placed S i whole o w) z = (whole, o, place_no_room i (whole_in_range shape o) w z)
 
   pixels_done : BinPixelsSays p shape id a q → a.number ≡ 0
-      → (whole : Shape) × (shape_of shape ≡ SnappedShape.Whole whole) × HasRoom p whole id × Listed p whole id a q
+      → (whole : Shape) × (shape_of shape ≡ Ok whole) × HasRoom p whole id × Listed p whole id a q
   pixels_done (BinPixelsSays.damaged n e f) z = other e z (omega arith)
   pixels_done (BinPixelsSays.bad_id S i e f) z = other e z (omega arith)
   pixels_done (BinPixelsSays.offence S i n o e f) z = offence_other shape o e z (omega arith) (omega arith)
@@ -215,7 +216,7 @@ module _ {p : List ℕ} {shape : PixelShape} {id : ℕ} {a : Binned} {q : List �
   demand_2_pixels S B = record {
     not_damaged = pixels_not_damaged S B;
     bad_id = (pixels_bad_id B, λ h. pixels_number B (BinPixelsSays.bad_id S h refl refl));
-    offence = λ n s. (pixels_offence S B n s, λ h. pixels_number B (BinPixelsSays.offence S h.0 n h.1 refl refl));
+    offence = λ n s. (pixels_offence S B n s, λ h. pixels_number B (BinPixelsSays.offence S h.0 h.1.0 h.1.1 refl refl) ∙ h.1.2);
     no_room = (
       pixels_no_room B,
       λ h. let o = h.2.0 in pixels_number B (BinPixelsSays.placed S o.id< h.0 h.1 (PlaceSays.no_room o.ts o.touched h.2.1 refl refl)),

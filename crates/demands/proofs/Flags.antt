@@ -16,7 +16,7 @@ use Rattle.touch.specs.declared.Cover.TheVariants.{Apart, Partly, Wholly}
 use Rattle.touch.specs.Cover.{is_whole}
 use Rattle.pool.specs.Words.{id_limit, layout_of}
 use Rattle.pool.specs.Sound.{Sound, tiles_of}
-use Rattle.calls.specs.declared.Found.{Found}
+use Rattle.calls.specs.Told.{Found}
 use Rattle.calls.specs.Tables.{list_in, found_in, ReadSays}
 use Rattle.demands.specs.Demand2.{gained}
 use Rattle.demands.specs.Flags.{ReadsBack}

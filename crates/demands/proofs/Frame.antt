@@ -18,8 +18,8 @@ use Rattle.pool.proofs.Written.{length-written, written_is}
 use Rattle.pool.proofs.Putting.{written_at, written-past}
 use Rattle.frame.specs.Frame.{lists_of}
 use Rattle.frame.proofs.Lists.{lists_split, start-at, starts_long, all_held}
-use Rattle.calls.specs.declared.Copied.{Copied}
-use Rattle.calls.specs.declared.PoolCounts.{PoolCounts}
+use Rattle.calls.specs.Told.{Copied}
+use Rattle.calls.specs.Told.{PoolCounts}
 use Rattle.calls.specs.Tables.{list_in, free_in, found_in, ReadSays}
 use Rattle.calls.specs.Frame.{lists_in, starts_in, ReadListSays, ReadAllSays, CountsSays}
 use Rattle.demands.specs.Demand1.{Outside}

@@ -24,10 +24,11 @@ use Rattle.touch.specs.declared.Cover.TheVariants.{Apart, Partly, Wholly}
 use Rattle.touch.specs.Cover.{CoverSays, is_touched, is_whole}
 use Rattle.touch.proofs.Points.{wholly_touches}
 use Rattle.touch.proofs.Covering.{one_cover}
-use Rattle.inside.specs.declared.Nested.{Nested}
+use Rattle.inside.specs.Inside.{Nested}
 use Rattle.inside.specs.Inside.{Inside, InsideSays, bad_list, out_of_range, done}
 use Rattle.inside.proofs.Means.{inside-touches, inside_wholly}
-use Rattle.snap.specs.declared.SnappedShape.{SnappedShape}
+use Rattle.std.specs.Prelude.{Result}
+use Rattle.numbers.specs.declared.Refusal.{Refusal}
 use Rattle.snap.specs.Shapes.{shape_of}
 use Rattle.pool.specs.Words.{Layout, id_limit, layout_of}
 use Rattle.pool.specs.Opening.{OpenSays}
@@ -190,7 +191,7 @@ id_in_range p (binned s i a) q S k shape id e =
 id_in_range p (binned_pixels s i a) q S k shape id e =
     let n = accepted_call a.number (appends_snapped (shape_of s) i) shape id e in
     let d = (demand_2_pixels S k).done.0 n.0 in
-    subst (λ (x : ℕ). x < id_limit) (same_id (ap (λ (w : SnappedShape). appends_snapped w i) (sym d.1) ∙ n.1)) d.2.0.id<
+    subst (λ (x : ℕ). x < id_limit) (same_id (ap (λ (w : Result Shape Refusal). appends_snapped w i) (sym d.1) ∙ n.1)) d.2.0.id<
 id_in_range p (found tile place a) q S k shape id e = absurd (true≢false cc)
 id_in_range p (released tile a) q S k shape id e = let n = (accepted_call a.number (empties tile) shape id e).1 in absurd (true≢false cc)
 

@@ -11,12 +11,13 @@ use Rattle.screen.specs.Screen.{Allowed, tiles}
 use Rattle.shape.specs.declared.Shape.{Shape}
 use Rattle.touch.specs.declared.Cover.{Cover}
 use Rattle.touch.proofs.Covering.{one_cover}
-use Rattle.snap.specs.declared.SnappedShape.{SnappedShape}
+use Rattle.std.specs.Prelude.{Result}
+use Rattle.numbers.specs.declared.Refusal.{Refusal}
 use Rattle.snap.specs.Shapes.{shape_of}
 use Rattle.pool.specs.Words.{layout_of}
 use Rattle.pool.specs.Sound.{Sound, screen_of, tiles_of}
-use Rattle.calls.specs.declared.Binned.{Binned}
-use Rattle.calls.specs.declared.Released.{Released}
+use Rattle.calls.specs.Told.{Binned}
+use Rattle.calls.specs.Told.{Released}
 use Rattle.calls.specs.Tables.{list_in}
 use Rattle.demands.specs.History.{Entry, binned, binned_pixels, found, released, number_of, Step, Run}
 use Rattle.demands.specs.Demand2.{gained, Listed, Emptied}
@@ -62,7 +63,7 @@ step_becomes p e q S s t ht = go e s (λ ne. ap (λ (x : List ℕ). list_in x t)
         by_number (screen_of p) t (list_in p t) (list_in q t) a.number (appends_snapped (shape_of shape) id)
         (λ z.
         let L = (demand_2_pixels S s).listed z in
-        subst (λ (w : SnappedShape). Becomes (screen_of p) t (appends_snapped w id) (list_in p t) (list_in q t)) (sym L.1) (listed_becomes S ht L.2))
+        subst (λ (w : Result Shape Refusal). Becomes (screen_of p) t (appends_snapped w id) (list_in p t) (list_in q t)) (sym L.1) (listed_becomes S ht L.2))
         same
     go (found tile place a) s same = ap (λ (x : List ℕ). list_in x t) s.1
     go (released tile a) s same = by_number (screen_of p) t (list_in p t) (list_in q t) a.number (empties tile) (λ z. emptied_becomes S ht ((demand_2_release S s).emptied z)) same

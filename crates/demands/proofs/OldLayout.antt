@@ -10,10 +10,10 @@ use Rattle.screen.proofs.Laws.{columns≥, rows≥}
 use Rattle.pool.specs.Words.{Layout, edition, layout_of, start}
 use Rattle.pool.specs.Sound.{Opened, Sound, screen_of, tiles_of}
 use Rattle.pool.proofs.Editions.{layout_one}
-use Rattle.calls.specs.declared.Binned.{Binned}
-use Rattle.calls.specs.declared.Released.{Released}
-use Rattle.calls.specs.declared.Found.{Found}
-use Rattle.calls.specs.declared.HighWater.{HighWater}
+use Rattle.calls.specs.Told.{Binned}
+use Rattle.calls.specs.Told.{Released}
+use Rattle.calls.specs.Told.{Found}
+use Rattle.calls.specs.Told.{HighWater}
 use Rattle.calls.specs.Tables.{AuditSays, BinSays, BinPixelsSays, ReadSays, HighWaterSays, ReleaseSays}
 use Rattle.calls.specs.BinList.{BinListSays}
 use Rattle.demands.specs.History.{Entry, binned, binned_pixels, found, released, number_of, Step}

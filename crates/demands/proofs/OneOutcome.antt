@@ -15,16 +15,17 @@ use Rattle.touch.specs.declared.Cover.TheVariants.{Apart, Partly, Wholly}
 use Rattle.touch.specs.Cover.{BoxCoverSays}
 use Rattle.touch.proofs.Covering.{one_cover}
 use Rattle.snap.specs.declared.PixelShape.{PixelShape}
-use Rattle.snap.specs.declared.SnappedShape.{SnappedShape}
+use Rattle.std.specs.Prelude.{Result, Ok, Err}
+use Rattle.numbers.specs.declared.Refusal.{Refusal}
 use Rattle.pool.specs.Words.{Layout, Known, layout_of}
 use Rattle.pool.specs.Sound.{screen_of, tiles_of}
 use Rattle.lists.specs.Appending.{need}
 use Rattle.lists.proofs.Several.{append_all_same}
-use Rattle.calls.specs.declared.Binned.{Binned}
-use Rattle.calls.specs.declared.Released.{Released}
-use Rattle.calls.specs.declared.Found.{Found}
-use Rattle.calls.specs.declared.HighWater.{HighWater}
-use Rattle.calls.specs.declared.Answered.{Answered}
+use Rattle.calls.specs.Told.{Binned}
+use Rattle.calls.specs.Told.{Released}
+use Rattle.calls.specs.Told.{Found}
+use Rattle.calls.specs.Told.{HighWater}
+use Rattle.calls.specs.Told.{Answered}
 use Rattle.pool.specs.Opening.{OpenSays}
 use Rattle.calls.specs.Tables.{AuditSays, PlaceSays, BinSays, BinPixelsSays, ReadSays, HighWaterSays, ReleaseSays}
 use Rattle.calls.specs.Questions.{RefusedWith, InOrder, AnswerSays, BoxSays, CornerSays}
@@ -105,7 +106,7 @@ bin_one_outcome (BinSays.placed s i o w) (BinSays.out_of_range s' i' o' e' f') =
 bin_one_outcome (BinSays.placed s i o w) (BinSays.placed s' i' o' w') = place_one_outcome w w'
 
 -- a shape in pixels is refused, or is a shape in units
-refused_or_whole : {s : SnappedShape} {n : ℕ} {w : Shape} → s ≡ SnappedShape.Refused n → s ≡ SnappedShape.Whole w → ⊥
+refused_or_whole : {s : Result Shape Refusal} {n : Refusal} {w : Shape} → s ≡ Err n → s ≡ Ok w → ⊥
 refused_or_whole {s} {n} {w} e f = let z : ◌≡◌ {A = ℕ} 0 1 = cc in omega arith
 
 place_one_shape : {p : List ℕ} {shape whole : Shape} {id : ℕ} {a b : Binned} {q r : List ℕ} → shape ≡ whole → PlaceSays p shape id a q → PlaceSays p whole id b r → (a ≡ b) × (q ≡ r)

@@ -14,8 +14,8 @@ use Rattle.overlaps.proofs.Counting.{counts_once, counts_both}
 use Rattle.overlaps.proofs.Tiles.{list_counts}
 use Rattle.overlaps.proofs.Once.{totals_once}
 use Rattle.pool.specs.Sound.{screen_of}
-use Rattle.calls.specs.declared.Binned.{Binned}
-use Rattle.calls.specs.declared.Counted.{Counted}
+use Rattle.calls.specs.Told.{Binned}
+use Rattle.calls.specs.Told.{Counted}
 use Rattle.calls.specs.Tables.{PlaceSays, BinSays}
 use Rattle.calls.specs.Overlaps.{OverlapsSays, bad_screen, bad_list, done}
 use Rattle.demands.specs.Overlaps.{Demand1Overlaps}

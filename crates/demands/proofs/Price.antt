@@ -10,7 +10,7 @@ use Rattle.walk.proofs.Touched.{touched_tiles_unique}
 use Rattle.stepping.proofs.Price.{tests_price}
 use Rattle.pool.specs.Words.{layout_of}
 use Rattle.pool.specs.Sound.{Sound, screen_of}
-use Rattle.calls.specs.declared.Binned.{Binned}
+use Rattle.calls.specs.Told.{Binned}
 use Rattle.calls.specs.Tables.{refused_bin, PlaceSays, BinSays, BinPixelsSays}
 use Rattle.demands.specs.Price.{Priced, BinPrice, BinPixelsPrice}
 

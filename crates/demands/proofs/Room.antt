@@ -30,10 +30,10 @@ use Rattle.lists.proofs.Several.{kept-keeps}
 use Rattle.lists.proofs.Releases.{release_releases}
 use Rattle.lists.proofs.AppendLoop.{need-kept}
 use Rattle.lists.proofs.Together.{Together, append_all_together, release-together}
-use Rattle.calls.specs.declared.Binned.{Binned}
-use Rattle.calls.specs.declared.Released.{Released}
-use Rattle.calls.specs.declared.Found.{Found}
-use Rattle.calls.specs.declared.HighWater.{HighWater}
+use Rattle.calls.specs.Told.{Binned}
+use Rattle.calls.specs.Told.{Released}
+use Rattle.calls.specs.Told.{Found}
+use Rattle.calls.specs.Told.{HighWater}
 use Rattle.calls.specs.Tables.{AuditSays, PlaceSays, BinSays, BinPixelsSays, ReadSays, HighWaterSays, ReleaseSays, list_in, free_in}
 use Rattle.calls.proofs.Placing.{touched_distinct}
 use Rattle.calls.proofs.Keeping.{bin_appends, entry_in_range}

@@ -25,9 +25,9 @@ use Rattle.pool.proofs.Total.{blocks_total, blocks_in_tiles-sum}
 use Rattle.lists.specs.Appending.{need, append_all}
 use Rattle.lists.specs.Wider.{Wider}
 use Rattle.lists.proofs.Widening.{wider_free}
-use Rattle.calls.specs.declared.Binned.{Binned}
-use Rattle.calls.specs.declared.Released.{Released}
-use Rattle.calls.specs.declared.Found.{Found}
+use Rattle.calls.specs.Told.{Binned}
+use Rattle.calls.specs.Told.{Released}
+use Rattle.calls.specs.Told.{Found}
 use Rattle.calls.specs.Tables.{PlaceSays, BinSays, BinPixelsSays, ReadSays, ReleaseSays, refused_bin, mark_in, free_in}
 use Rattle.calls.proofs.Placing.{touched_distinct}
 use Rattle.calls.proofs.Keeping.{bin_appends}

@@ -9,7 +9,7 @@ use lib.Ieee.Scale.{finite}
 use Rattle.shape.specs.Shape.{InUnits}
 use Rattle.snap.specs.Unit.{HasUnit}
 use Rattle.snap.proofs.Unit.{one_unit}
-use Rattle.calls.specs.declared.Rounded.{Rounded}
+use Rattle.calls.specs.Told.{Rounded}
 use Rattle.calls.specs.Units.{UnitSays}
 use Rattle.demands.specs.Unit.{Demand1Unit}
 

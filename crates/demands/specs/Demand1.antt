@@ -7,8 +7,8 @@ use Rattle.touch.specs.declared.Cover.TheVariants.{Apart}
 use Rattle.screen.specs.Screen.{tiles}
 use Rattle.pool.specs.Words.{Layout, layout_of, room}
 use Rattle.pool.specs.Sound.{tiles_of, blocks_of}
-use Rattle.calls.specs.declared.HighWater.{HighWater}
-use Rattle.calls.specs.declared.Answered.{Answered}
+use Rattle.calls.specs.Told.{HighWater}
+use Rattle.calls.specs.Told.{Answered}
 use Rattle.demands.specs.History.{Entry, binned, binned_pixels, found, released, number_of}
 
 abbrev pub Among : ℕ → List ℕ → Type 0

@@ -1,5 +1,7 @@
 -- Demand 2: with which number a bin and a release of a sound pool are answered, and what an accepted one does to it.
-use Rattle.std.specs.Prelude.{◌≡◌, ◌≢◌, ◌⊎◌, ◌↔◌, true, false, List, [], ◌∷◌, ◌++◌, ℕ, ◌+◌, ◌≤◌, ◌<◌, max, length}
+use Rattle.std.specs.Prelude.{◌≡◌, ◌≢◌, ◌⊎◌, ◌↔◌, true, false, List, [], ◌∷◌, ◌++◌, ℕ, ◌+◌, ◌≤◌, ◌<◌, max, length, Ok, Err}
+use Rattle.numbers.specs.declared.Refusal.{Refusal}
+use Rattle.numbers.specs.Refusal.{number_of}
 use Rattle.numbers.specs.Ceil.{ceil}
 use Rattle.numbers.specs.Flag.{flagged}
 use Rattle.screen.specs.Rectangle.{rectangle}
@@ -11,14 +13,13 @@ use Rattle.touch.specs.Cover.{CoverSays}
 use Rattle.walk.specs.Touched.{TouchedTiles}
 use Rattle.stepping.specs.Stepped.{TestsSay}
 use Rattle.snap.specs.declared.PixelShape.{PixelShape}
-use Rattle.snap.specs.declared.SnappedShape.{SnappedShape}
 use Rattle.snap.specs.Shapes.{shape_of}
 use Rattle.pool.specs.Words.{edition, id_limit, layout_of, block_word}
 use Rattle.pool.specs.State.{tile_of, times}
 use Rattle.pool.specs.Sound.{Sound, screen_of, tiles_of, blocks_of}
 use Rattle.lists.specs.Appending.{need}
-use Rattle.calls.specs.declared.Binned.{Binned}
-use Rattle.calls.specs.declared.Released.{Released}
+use Rattle.calls.specs.Told.{Binned}
+use Rattle.calls.specs.Told.{Released}
 use Rattle.calls.specs.Tables.{list_in, mark_in, free_in}
 
 -- the words q are a sound pool of the same layout and screen and with as many blocks as p
@@ -76,10 +77,10 @@ pub record Demand2Bin (p : List ℕ) (shape : Shape) (id : ℕ) (a : Binned) (q 
 pub record Demand2Pixels (p : List ℕ) (shape : PixelShape) (id : ℕ) (a : Binned) (q : List ℕ) : Type 0 where
   pub not_damaged : a.number ≢ 4
   pub bad_id : (a.number ≡ 5) ↔ (id_limit ≤ id)
-  pub offence : (n : ℕ) → (n ≡ 6) ⊎ (n ≡ 7) → (a.number ≡ n) ↔ ((id < id_limit) × (shape_of shape ≡ SnappedShape.Refused n))
-  pub no_room : (a.number ≡ 8) ↔ ((whole : Shape) × (shape_of shape ≡ SnappedShape.Whole whole) × NoRoom p whole id)
-  pub done : (a.number ≡ 0) ↔ ((whole : Shape) × (shape_of shape ≡ SnappedShape.Whole whole) × HasRoom p whole id)
-  pub listed : a.number ≡ 0 → (whole : Shape) × (shape_of shape ≡ SnappedShape.Whole whole) × Listed p whole id a q
+  pub offence : (n : ℕ) → (n ≡ 6) ⊎ (n ≡ 7) → (a.number ≡ n) ↔ ((id < id_limit) × ((r : Refusal) × (shape_of shape ≡ Err r) × (number_of r ≡ n)))
+  pub no_room : (a.number ≡ 8) ↔ ((whole : Shape) × (shape_of shape ≡ Ok whole) × NoRoom p whole id)
+  pub done : (a.number ≡ 0) ↔ ((whole : Shape) × (shape_of shape ≡ Ok whole) × HasRoom p whole id)
+  pub listed : a.number ≡ 0 → (whole : Shape) × (shape_of shape ≡ Ok whole) × Listed p whole id a q
   pub stays : StaysSound p q
 
 -- ---- release

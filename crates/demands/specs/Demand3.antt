@@ -1,12 +1,12 @@
 -- Demand 3: two pools of one layout, screen and tile size, the second with at least as many blocks, given the same calls less those that the first refused for room.
-use Rattle.std.specs.Prelude.{◌≡◌, ◌≢◌, ◌⊎◌, cond, List, [], ◌∷◌, ◌++◌, ℕ, ◌+◌, ◌≤◌, ◌<◌, eqb}
+use Rattle.std.specs.Prelude.{◌≡◌, ◌≢◌, ◌⊎◌, cond, List, [], ◌∷◌, ◌++◌, ℕ, ◌+◌, ◌≤◌, ◌<◌, eqb, Result, Ok, Err}
+use Rattle.numbers.specs.declared.Refusal.{Refusal}
 use Rattle.screen.specs.declared.Screen.{Screen}
 use Rattle.screen.specs.Screen.{tiles}
 use Rattle.screen.specs.Rectangle.{rectangle}
 use Rattle.shape.specs.declared.Shape.{Shape}
 use Rattle.touch.specs.declared.Cover.{Cover}
 use Rattle.touch.specs.Cover.{CoverSays}
-use Rattle.snap.specs.declared.SnappedShape.{SnappedShape}
 use Rattle.snap.specs.Shapes.{shape_of}
 use Rattle.pool.specs.Words.{Layout, edition, block_word}
 use Rattle.pool.specs.Opening.{OpenSays}
@@ -20,9 +20,9 @@ pub data Effect : Type 0 where
   empties : (tile : ℕ) → Effect
   nothing : Effect
 
-abbrev pub appends_snapped : SnappedShape → (id : ℕ) → Effect
-appends_snapped (SnappedShape.Whole shape) id = appends shape id
-appends_snapped (SnappedShape.Refused n) id = nothing
+abbrev pub appends_snapped : Result Shape Refusal → (id : ℕ) → Effect
+appends_snapped (Ok shape) id = appends shape id
+appends_snapped (Err r) id = nothing
 
 abbrev pub accepted : (number : ℕ) → Effect → Effect
 accepted n e = cond (eqb n 0) e nothing

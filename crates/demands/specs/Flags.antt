@@ -7,8 +7,8 @@ use Rattle.touch.specs.declared.Cover.TheVariants.{Apart}
 use Rattle.touch.specs.Cover.{CoverSays, is_whole}
 use Rattle.pool.specs.Words.{layout_of}
 use Rattle.pool.specs.Sound.{Sound, screen_of, tiles_of}
-use Rattle.calls.specs.declared.Binned.{Binned}
-use Rattle.calls.specs.declared.Found.{Found}
+use Rattle.calls.specs.Told.{Binned}
+use Rattle.calls.specs.Told.{Found}
 use Rattle.calls.specs.Tables.{list_in, BinSays, ReadSays}
 
 -- after an accepted bin, a read at the place where the list of a touched tile ended tells the id, and whether the shape covers the tile wholly

@@ -4,9 +4,9 @@ use Rattle.std.specs.Prelude.{◌≡◌, ◌≢◌, ◌⊎◌, List, [], ◌∷�
 use Rattle.screen.specs.declared.Screen.{Screen}
 use Rattle.pool.specs.Words.{Layout, layout_of}
 use Rattle.pool.specs.Sound.{tiles_of}
-use Rattle.calls.specs.declared.Found.{Found}
-use Rattle.calls.specs.declared.Copied.{Copied}
-use Rattle.calls.specs.declared.PoolCounts.{PoolCounts}
+use Rattle.calls.specs.Told.{Found}
+use Rattle.calls.specs.Told.{Copied}
+use Rattle.calls.specs.Told.{PoolCounts}
 use Rattle.calls.specs.Tables.{list_in, not_found, found_in, ReadSays}
 use Rattle.calls.specs.Frame.{ReadListSays, ReadAllSays, CountsSays}
 use Rattle.demands.specs.History.{Entry, Run, calls_of, less_room}

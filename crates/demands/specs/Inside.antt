@@ -11,11 +11,11 @@ use Rattle.touch.specs.declared.Cover.{Cover}
 use Rattle.touch.specs.declared.Cover.TheVariants.{Apart}
 use Rattle.touch.specs.Touches.{Touches}
 use Rattle.touch.specs.Cover.{Wholly, CoverSays, is_whole}
-use Rattle.inside.specs.declared.Nested.{Nested}
+use Rattle.inside.specs.Inside.{Nested}
 use Rattle.inside.specs.Inside.{Inside}
 use Rattle.pool.specs.Words.{Layout}
 use Rattle.pool.specs.Opening.{OpenSays}
-use Rattle.calls.specs.declared.Found.{Found}
+use Rattle.calls.specs.Told.{Found}
 use Rattle.calls.specs.Tables.{list_in, ReadSays}
 use Rattle.demands.specs.History.{Entry, Step, Run}
 use Rattle.demands.specs.Demand1.{Among}

@@ -7,7 +7,7 @@ use Rattle.walk.specs.Touched.{TouchedTiles}
 use Rattle.quarters.specs.Map.{MapSays}
 use Rattle.pool.specs.Words.{layout_of}
 use Rattle.pool.specs.Sound.{Sound, screen_of, tiles_of}
-use Rattle.calls.specs.declared.Binned.{Binned}
+use Rattle.calls.specs.Told.{Binned}
 use Rattle.calls.specs.Tables.{list_in, BinSays}
 use Rattle.demands.specs.Demand1.{Among, Outside}
 

@@ -2,7 +2,7 @@
 use Rattle.std.specs.Prelude.{◌≡◌, List, ℕ, ℤ}
 use Rattle.pool.specs.Words.{Layout, edition}
 use Rattle.pool.specs.Sound.{Opened}
-use Rattle.calls.specs.declared.HighWater.{HighWater}
+use Rattle.calls.specs.Told.{HighWater}
 use Rattle.calls.specs.Tables.{AuditSays, HighWaterSays}
 use Rattle.calls.specs.BinList.{BinListSays}
 use Rattle.demands.specs.History.{Entry, number_of, Step}

@@ -1,7 +1,7 @@
 -- Demand 1 of the totals over a list of shapes, which are lent no pool: a refusal gives one of its numbers, and zero for each total.
 use Rattle.std.specs.Prelude.{◌≡◌, ◌≢◌, ◌⊎◌, [], ◌∷◌}
 use Rattle.overlaps.specs.Adding.{no_totals}
-use Rattle.calls.specs.declared.Counted.{Counted}
+use Rattle.calls.specs.Told.{Counted}
 use Rattle.demands.specs.Demand1.{Among}
 
 pub record Demand1Overlaps (a : Counted) : Type 0 where

@@ -1,13 +1,12 @@
 -- The price of a bin: how many tests it makes at most.
-use Rattle.std.specs.Prelude.{◌≡◌, List, ℕ, ◌+◌, ◌*◌, ◌≤◌, length}
+use Rattle.std.specs.Prelude.{◌≡◌, List, ℕ, ◌+◌, ◌*◌, ◌≤◌, length, Ok}
 use Rattle.shape.specs.declared.Shape.{Shape}
 use Rattle.walk.specs.Touched.{TouchedTiles}
 use Rattle.stepping.specs.Stepped.{RowsOf}
 use Rattle.snap.specs.declared.PixelShape.{PixelShape}
 use Rattle.pool.specs.Sound.{screen_of}
-use Rattle.calls.specs.declared.Binned.{Binned}
+use Rattle.calls.specs.Told.{Binned}
 use Rattle.calls.specs.Tables.{BinSays, BinPixelsSays}
-use Rattle.snap.specs.declared.SnappedShape.{SnappedShape}
 use Rattle.snap.specs.Shapes.{shape_of}
 
 -- with ts the tiles that the shape touches and rs the rows in which these stand, the tests are at most twice the tiles listed and the rows listed
@@ -21,4 +20,4 @@ BinPrice = (p : List ℕ) (shape : Shape) (id : ℕ) (a : Binned) (q : List ℕ)
 abbrev pub BinPixelsPrice : Type 0
 BinPixelsPrice =
     (p : List ℕ) (shape : PixelShape) (id : ℕ) (a : Binned) (q : List ℕ) → BinPixelsSays p shape id a q
-    → (whole : Shape) → shape_of shape ≡ SnappedShape.Whole whole → Priced p whole a
+    → (whole : Shape) → shape_of shape ≡ Ok whole → Priced p whole a

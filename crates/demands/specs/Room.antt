@@ -5,7 +5,7 @@ use Rattle.screen.specs.Screen.{tiles}
 use Rattle.pool.specs.Words.{Layout, layout_of, room}
 use Rattle.pool.specs.Sound.{tiles_of, blocks_of}
 use Rattle.pool.specs.Opening.{OpenSays}
-use Rattle.calls.specs.declared.HighWater.{HighWater}
+use Rattle.calls.specs.Told.{HighWater}
 use Rattle.calls.specs.Tables.{AuditSays, HighWaterSays}
 use Rattle.demands.specs.History.{Entry, Run, calls_of}
 

@@ -1,10 +1,10 @@
 -- A tile's list that is copied into a buffer, one stretch after the other; and all lists, one behind the other.
-use mathlib.Core.Path.{◌≡◌, sym, ap, ◌∙◌, subst}
+use mathlib.Core.Path.{◌≡◌, sym, ap, ◌∙◌}
 use mathlib.Core.List.{List}
 use Prim.Native.Nat.{ℕ, ◌+◌, ◌-◌, ◌≤◌, ◌<◌, min}
 use native.Mathlib.Omega.{arith}
 use lib.ListN.{length, get_or, take, drop}
-use lib.Seq.{length-take-le, take-add, take_all}
+use lib.Seq.{length-take-le, take-add}
 use Rattle.pool.specs.Words.{Layout, tile_word, block_word}
 use Rattle.pool.specs.Sound.{blocks_of}
 use Rattle.pool.specs.Lists.{list_of}
@@ -29,9 +29,6 @@ module _ {L : Layout} {p : List ℕ} {T t : ℕ} (G : Among L p T t) {old : List
   module _ {new : List ℕ} {link next : ℕ} (C : Copying L T p t old at new link next) where
     reached : next ≡ at + C.done
     reached = C.put.next_is ∙ ap (λ (n : ℕ). at + n) (length-take-le C.done (list_of L T p t) C.follows.upto)
-
-    pub copy_end : at + length (list_of L T p t) ≤ next → Puts old at (list_of L T p t) new next
-    copy_end h = subst (λ (l : List ℕ). Puts old at l new next) (take_all C.done (list_of L T p t) (omega (arith, reached))) C.put
 
     module _ (more : next < at + length (list_of L T p t)) where
       pub copy_block : (0 < link) × BlockIn L T p (link - 1) L.ids

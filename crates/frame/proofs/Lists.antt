@@ -18,7 +18,6 @@ use Rattle.pool.specs.Written.{written, Puts}
 use Rattle.pool.proofs.Lists.{get_or-table, length-table, list_of_tile, blocks_enough}
 use Rattle.pool.proofs.Total.{blocks_in_tiles, blocks_in_tiles-sum, blocks_total}
 use Rattle.pool.proofs.Putting.{Writing, write_start, write_step, write_end, puts_none, puts_then}
-use Rattle.lists.specs.Reach.{Among}
 use Rattle.frame.specs.Frame.{lists_of, starts_of}
 
 module _ (L : Layout) (T : ℕ) (p : List ℕ) where
@@ -78,9 +77,6 @@ module _ {L : Layout} {p : List ℕ} (S : Sound L p) (A : Sized L) where
       omega (arith, all, lists_held (tiles_of p) (omega arith))
 
   module _ {T : ℕ} (e : T ≡ tiles_of p) where
-    pub tile_among : {t : ℕ} → t < T → Among L p T t
-    tile_among h = record { sound = S; sized = A; tiles = e; tile = h }
-
     pub lists_fit : (t : ℕ) → t ≤ T → length (lists_of L T p t) < 2 ^ 32
     lists_fit t h =
         let most : L.ids * blocks_of p ≤ 63 * blocks_of p = mul-le-mul_right (blocks_of p) A.ids≤ in
@@ -112,9 +108,8 @@ module _ {L : Layout} {T : ℕ} {p starts₀ entries₀ : List ℕ} where
     frame-next i v ei ev h P = record { begun = started i v ei ev; listed = rw (lists_next L T p t) (puts_then F.listed P); upto = omega arith }
 
     -- after the last tile there is one start to write, where its list ends
-    pub frame_all : (i v : ℕ) → i ≡ T → v ≡ next → T ≤ t
-        → (set starts i v ≡ written starts₀ 0 (starts_of L T p)) × (entries ≡ written entries₀ 0 (lists_of L T p T))
+    pub frame_all : (i v : ℕ) → i ≡ T → v ≡ next → T ≤ t → set starts i v ≡ written starts₀ 0 (starts_of L T p)
     frame_all i v ei ev h =
         let e : t ≡ T = omega (arith, F.upto) in
         let W = started i v (ei ∙ sym e) ev in
-        (write_end W (omega (arith, starts_long L T p)), rw e at F.listed.after_is)
+        write_end W (omega (arith, starts_long L T p))

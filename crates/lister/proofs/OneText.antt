@@ -9,7 +9,7 @@ use Rattle.numbers.proofs.Ceil.{lt_or_ge, eq_or_ne}
 use Rattle.pool.specs.Words.{layout_of}
 use Rattle.pool.specs.Sound.{Sound}
 use Rattle.lister.specs.Bytes.{words_of}
-use Rattle.lister.specs.declared.input.Input.{Input}
+use Rattle.std.proofs.Common.{Result, Ok, Err}
 use Rattle.lister.specs.Answer.{WordsSay, BytesSay, InputSays}
 
 -- two lists are equal or not
@@ -40,6 +40,6 @@ one_text bytes s t A B =
     (eq_or_ne (length bytes % 4) 0))
     (lt_or_ge 65536 (length bytes))
 
-pub one_text_input : (buffer : List ℕ) (input : Input) (s t : List ℕ) → InputSays buffer input s → InputSays buffer input t → s ≡ t
-one_text_input buffer (Input.Bytes n) s t A B = one_text (take n buffer) s t A B
-one_text_input buffer Input.Failed s t A B = A ∙ sym B
+pub one_text_input : {E : Type 0} (buffer : List ℕ) (input : Result ℕ E) (s t : List ℕ) → InputSays buffer input s → InputSays buffer input t → s ≡ t
+one_text_input buffer (Ok n) s t A B = one_text (take n buffer) s t A B
+one_text_input buffer (Err _) s t A B = A ∙ sym B

@@ -1,12 +1,10 @@
 -- What the lister writes for the bytes that it reads.
-use Rattle.std.specs.Prelude.{◌≡◌, List, [], ◌∷◌, ℕ, ◌%◌, ◌≤◌, ◌<◌, length, take}
+use Rattle.std.specs.Prelude.{◌≡◌, List, [], ◌∷◌, ℕ, ◌%◌, ◌≤◌, ◌<◌, length, take, Result, Ok, Err}
 use Rattle.io.specs.Counts.{IsPrefixLen}
 use Rattle.pool.specs.Words.{layout_of}
 use Rattle.pool.specs.Sound.{Sound}
 use Rattle.lister.specs.Bytes.{words_of}
 use Rattle.lister.specs.Listing.{listing}
-use Rattle.lister.specs.declared.input.Input.{Input}
-use Rattle.lister.specs.declared.input.Input.TheVariants.{Bytes, Failed}
 
 -- "too long\n" and "damaged\n"
 abbrev pub too_long : List ℕ
@@ -27,11 +25,11 @@ pub record BytesSay (bytes text : List ℕ) : Type 0 where
   pub whole : length bytes ≤ 65536 → length bytes % 4 ≡ 0 → WordsSay (words_of bytes) text
 
 -- what was read stands at the start of a buffer
-abbrev pub Within : Input → (buffer : List ℕ) → Type 0
-Within (Bytes n) buffer = IsPrefixLen n buffer
-Within Failed buffer = Unit {0}
+abbrev pub Within : {E : Type 0} → Result ℕ E → (buffer : List ℕ) → Type 0
+Within (Ok n) buffer = IsPrefixLen n buffer
+Within (Err _) buffer = Unit {0}
 
 -- the text for what was read into a buffer; an input that could not be read to its end is damaged
-abbrev pub InputSays : (buffer : List ℕ) → Input → (text : List ℕ) → Type 0
-InputSays buffer (Bytes n) text = BytesSay (take n buffer) text
-InputSays buffer Failed text = text ≡ damaged
+abbrev pub InputSays : {E : Type 0} → (buffer : List ℕ) → Result ℕ E → (text : List ℕ) → Type 0
+InputSays buffer (Ok n) text = BytesSay (take n buffer) text
+InputSays buffer (Err _) text = text ≡ damaged

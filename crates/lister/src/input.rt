@@ -1,28 +1,21 @@
 // Standard input, read into a buffer.
 ghost use Rattle.lister.specs.Answer.{Within};
 
+use std::io;
 use std::io::Read;
 
-// What was read: so many bytes at the start of the buffer, or a part that is not told, since a read failed.
-#[derive(Clone, Copy)]
-pub enum Input {
-    Bytes(usize),
-    Failed,
-}
-
-// Reads until the input ends, the buffer is full or a read fails.
-pub fn read_input<R: Read>(reader: &mut R, buffer: &mut [u8]) -> Input
+// Reads until the input ends or the buffer is full, and answers how many bytes stand at its start; or the error of the first read that fails.
+pub fn read_input<R: Read>(reader: &mut R, buffer: &mut [u8]) -> io::Result<usize>
     ensures { Within result buffer.new }
 {
     let mut done = 0;
+    // A `while`: a read says how far it goes.
     while done < buffer.len() {
-        let Ok(more) = reader.read(&mut buffer[done..]) else {
-            return Input::Failed;
-        };
+        let more = reader.read(&mut buffer[done..])?;
         if more == 0 {
-            return Input::Bytes(done);
+            break;
         }
         done += more;
     }
-    Input::Bytes(done)
+    Ok(done)
 }

@@ -1,7 +1,6 @@
 // The listing of a sound pool: a line for the screen, and one for each tile with entries. Each function puts its text at a place of a buffer, where there is
 // room for it, and answers the place after it.
 ghost use Rattle.std.specs.Prelude.{◌≡◌, ◌+◌, ◌^◌, ◌<◌, ◌≤◌, length};
-ghost use Rattle.screen.specs.Screen.{Allowed};
 ghost use Rattle.pool.specs.Words.{layout_of};
 ghost use Rattle.pool.specs.Editions.{layout_for};
 ghost use Rattle.pool.specs.Sound.{Sound, tiles_of};
@@ -13,9 +12,9 @@ ghost use Rattle.lister.specs.Listing.{screen_line, entry_text, entries_text, li
 
 use crate::text::{put_field, put_text};
 use audit::Header;
+use lists::Lists;
 use numbers::{is_flagged, plain, wide};
-use pool::Edition;
-use screen::{Screen, Tile};
+use screen::{Grid, Tile};
 
 // The side of a tile, in pixels.
 fn pixels(s: u32) -> u32
@@ -26,11 +25,11 @@ fn pixels(s: u32) -> u32
 }
 
 // The screen, the side of a tile in pixels, how many blocks there are, and how many are free.
-fn put_screen(screen: Screen, blocks: u32, free: u32, out: &mut [u8], at: usize) -> usize
-    requires allowed { Allowed screen }
-    requires free_in_bounds { at + length (screen_line screen.width screen.height (2 ^ screen.s) blocks free) ≤ length out.old }
-    ensures { Puts out.old at (screen_line screen.width screen.height (2 ^ screen.s) blocks free) out.new result }
+fn put_screen(grid: Grid, blocks: u32, free: u32, out: &mut [u8], at: usize) -> usize
+    requires { at + length (screen_line grid.screen.width grid.screen.height (2 ^ grid.screen.s) blocks free) ≤ length out.old }
+    ensures { Puts out.old at (screen_line grid.screen.width grid.screen.height (2 ^ grid.screen.s) blocks free) out.new result }
 {
+    let screen = grid.screen;
     let width = put_field(b"screen ", screen.width, out, at);
     let height = put_field(b" ", screen.height, out, width);
     let side = put_field(b" tile ", pixels(screen.s), out, height);
@@ -57,10 +56,8 @@ fn put_entries(entries: &[u32], out: &mut [u8], at: usize) -> usize
     ensures { Puts out.old at (entries_text entries.now) out.new result }
 {
     let mut next = at;
-    let mut k = 0;
-    while k < entries.len() {
-        next = put_entry(entries[k], out, next);
-        k += 1;
+    for entry in entries {
+        next = put_entry(*entry, out, next);
     }
     next
 }
@@ -79,19 +76,18 @@ fn put_line(tile: Tile, entries: &[u32], out: &mut [u8], at: usize) -> usize
 // The line of a tile of a sound pool, and nothing where its list is empty. `list` has room for it.
 fn put_tile(
     pool: &[u32],
-    layout: Edition,
-    tiles: usize,
+    lists: Lists,
     tile: Tile,
     list: &mut [u32],
     out: &mut [u8],
     at: usize,
 ) -> usize
-    requires among { Among (layout_for layout) pool.now tiles tile.0 }
-    requires tile_in_bounds { length (list_of (layout_for layout) tiles pool.now tile.0) ≤ length list.old }
-    requires tile_in_bounds_2 { at + length (tile_line tile.0 (list_of (layout_for layout) tiles pool.now tile.0)) ≤ length out.old }
-    ensures { Puts out.old at (tile_line tile.0 (list_of (layout_for layout) tiles pool.now tile.0)) out.new result }
+    requires among { Among (layout_for lists.layout) pool.now lists.tiles tile.0 }
+    requires tile_in_bounds { length (list_of (layout_for lists.layout) lists.tiles pool.now tile.0) ≤ length list.old }
+    requires tile_in_bounds_2 { at + length (tile_line tile.0 (list_of (layout_for lists.layout) lists.tiles pool.now tile.0)) ≤ length out.old }
+    ensures { Puts out.old at (tile_line tile.0 (list_of (layout_for lists.layout) lists.tiles pool.now tile.0)) out.new result }
 {
-    let count = frame::put_list(pool, layout, tiles, tile, list, 0);
+    let count = frame::put_list(pool, lists, tile, list, 0);
     if count == 0 {
         return at;
     }
@@ -106,13 +102,14 @@ fn put_tiles(pool: &[u32], header: Header, list: &mut [u32], out: &mut [u8], at:
     requires pool_in_bounds_2 { at + length (tile_lines pool.now (tiles_of pool.now)) ≤ length out.old }
     ensures { Puts out.old at (tile_lines pool.now (tiles_of pool.now)) out.new result }
 {
-    let tiles = header.tiles;
-    let all = wide(tiles);
+    let all = wide(header.tiles);
+    let lists = Lists {
+        layout: header.layout,
+        tiles: all,
+    };
     let mut next = at;
-    let mut t = 0;
-    while t < tiles {
-        next = put_tile(pool, header.layout, all, Tile(t), list, out, next);
-        t += 1;
+    for t in 0..header.tiles {
+        next = put_tile(pool, lists, Tile(t), list, out, next);
     }
     next
 }
@@ -125,6 +122,6 @@ pub fn put_listing(pool: &[u32], header: Header, list: &mut [u32], out: &mut [u8
     requires pool_in_bounds_2 { length (listing pool.now) ≤ length out.old }
     ensures { Puts out.old 0 (listing pool.now) out.new result }
 {
-    let at = put_screen(header.screen, header.blocks, pool[4], out, 0);
+    let at = put_screen(header.grid, header.blocks, pool[4], out, 0);
     put_tiles(pool, header, list, out, at)
 }

@@ -10,11 +10,11 @@ ghost use Rattle.std.specs.Prelude.{◌≤◌, ◌<◌, length, take};
 ghost use Rattle.io.specs.Counts.{IsPrefixLen};
 ghost use Rattle.lister.specs.Answer.{WordsSay, BytesSay, Within, InputSays};
 
-use crate::input::{Input, read_input};
+use crate::input::read_input;
 use crate::listing::put_listing;
 use crate::text::put_text;
 use crate::words::words_from;
-use audit::Audited;
+use std::io;
 
 // The longest input that is listed, in bytes and in words.
 const MOST_BYTES: usize = 65536;
@@ -30,10 +30,11 @@ fn list_words(pool: &[u32], out: &mut [u8]) -> usize
     ensures within { IsPrefixLen result out.new }
     ensures text { WordsSay pool.now (take result out.new) }
 {
-    let Audited::Sound(header) = audit::audit(pool) else {
+    let Some(header) = audit::audit(pool) else {
         return put_text(b"damaged\n", out, 0);
     };
-    let mut list = [0u32; MOST_WORDS];
+    // No heap: room for the list of one tile.
+    let mut list = [0; MOST_WORDS];
     put_listing(pool, header, &mut list, out)
 }
 
@@ -50,18 +51,19 @@ fn list_bytes(bytes: &[u8], out: &mut [u8]) -> usize
     if bytes.len() % 4 != 0 {
         return put_text(b"damaged\n", out, 0);
     }
-    let mut words = [0u32; MOST_WORDS];
+    // No heap: room for the words of the longest input.
+    let mut words = [0; MOST_WORDS];
     let count = words_from(bytes, &mut words);
     list_words(&words[..count], out)
 }
 
 // Puts the text for what was read at the start of `out`, and answers its length. The buffer is longer than the longest input, so that a longer one is seen.
-fn list_input(buffer: &[u8], input: Input, out: &mut [u8]) -> usize
+fn list_input(buffer: &[u8], input: io::Result<usize>, out: &mut [u8]) -> usize
     requires { (65536 < length buffer.now) × (Within input buffer.now) × (162000 ≤ length out.old) }
     ensures within { IsPrefixLen result out.new }
     ensures text { InputSays buffer.now input (take result out.new) }
 {
-    let Input::Bytes(count) = input else {
+    let Ok(count) = input else {
         return put_text(b"damaged\n", out, 0);
     };
     list_bytes(&buffer[..count], out)
@@ -69,6 +71,7 @@ fn list_input(buffer: &[u8], input: Input, out: &mut [u8]) -> usize
 
 // Writes the text for what it reads. Where that fails, a line on standard error says so.
 fn main(rt: HostRuntime) {
+    // No heap: room for an input that is too long, and for the longest listing.
     let mut buffer = [0u8; MOST_BYTES + 1];
     let input = read_input(&mut rt.stdin(), &mut buffer);
     let mut out = [0u8; MOST_TEXT];

@@ -1,4 +1,5 @@
-// Text in a buffer. Each function puts its text at a place of the buffer, where there is room for it, and answers the place after it.
+// Text in a buffer, whose place stays beside it: no heap, and the contracts speak of both. Each function puts its text at a place of the buffer, where there is
+// room for it, and answers the place after it.
 ghost use Rattle.std.specs.Prelude.{◌+◌, ◌≤◌, length};
 ghost use Rattle.pool.specs.Written.{Puts};
 ghost use Rattle.lister.specs.Text.{numeral, field};
@@ -8,12 +9,9 @@ pub fn put_text(text: &[u8], out: &mut [u8], at: usize) -> usize
     requires { at + length text.now ≤ length out.old }
     ensures { Puts out.old at text.now out.new result }
 {
-    let mut k = 0;
-    while k < text.len() {
-        out[at + k] = text[k];
-        k += 1;
-    }
-    at + text.len()
+    let end = at + text.len();
+    out[at..end].copy_from_slice(text);
+    end
 }
 
 // The digits of n.
@@ -21,8 +19,9 @@ pub fn put_number(n: u32, out: &mut [u8], at: usize) -> usize
     requires { at + length (numeral n) ≤ length out.old }
     ensures { Puts out.old at (numeral n) out.new result }
 {
-    let mut digits = [0u8; 20];
-    let count = io::decimal(n as u64, &mut digits);
+    // No heap: as many digits as a u64 has.
+    let mut digits = [0; 20];
+    let count = io::decimal(u64::from(n), &mut digits);
     put_text(&digits[..count], out, at)
 }
 

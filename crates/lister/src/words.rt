@@ -3,18 +3,11 @@ ghost use Rattle.std.specs.Prelude.{◌≡◌, ◌+◌, ◌*◌, ◌<◌, ◌≤
 ghost use Rattle.io.specs.Counts.{IsPrefixLen};
 ghost use Rattle.lister.specs.Bytes.{word_of, word_at, words_of};
 
-// A byte, as a word.
-fn byte(x: u8) -> u32
-    ensures { (result ≡ x) × (result < 256) }
-{
-    x as u32
-}
-
 // Four bytes, the lowest first.
 fn word(a: u8, b: u8, c: u8, d: u8) -> u32
     ensures { result ≡ word_of a b c d }
 {
-    byte(a) + 256 * byte(b) + 65536 * byte(c) + 16777216 * byte(d)
+    u32::from_le_bytes([a, b, c, d])
 }
 
 // The word that starts at a byte.
@@ -32,10 +25,9 @@ pub fn words_from(bytes: &[u8], words: &mut [u32]) -> usize
     ensures whole { take result words.new ≡ words_of bytes.now }
 {
     let count = bytes.len() / 4;
-    let mut k = 0;
-    while k < count {
+    // By index: of a slice that is lent item by item a proof knows no word afterwards.
+    for k in 0..count {
         words[k] = word_at(bytes, 4 * k);
-        k += 1;
     }
     count
 }

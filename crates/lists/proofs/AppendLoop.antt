@@ -6,8 +6,8 @@ use Prim.Native.Nat.{ℕ, suc, ◌+◌, ◌%◌, ◌≤◌, ◌<◌}
 use native.Mathlib.Numerals.{add-one}
 use native.Mathlib.Omega.{arith}
 use borrow.Author.Tests.{eq-eqb, ne_eqb}
-use lib.ListN.{length, get_or, take, drop}
-use lib.Seq.{drop-cons, get_or-take, length-take-le, drop-length}
+use lib.ListN.{length, get_or, drop}
+use lib.Seq.{drop-cons}
 use Rattle.numbers.specs.Flag.{flagged, plain, is_flagged, plains}
 use Rattle.numbers.specs.Sum.{one}
 use Rattle.pool.specs.Words.{Layout, header_word, tile_word}
@@ -20,14 +20,9 @@ use Rattle.lists.specs.Reach.{Among, AllAmong, Appendable}
 use Rattle.lists.proofs.Counts.{distinct_rest}
 use Rattle.lists.proofs.Several.{kept-keeps, append_all_appends}
 
--- the tiles that are left after i of n, and the next of them
-pub rest_next : (named : List ℕ) (n i : ℕ) → n ≤ length named → i < n → drop i (take n named) ≡ get_or named i 0 ∷ drop (i + 1) (take n named)
-rest_next named n i le h =
-    let l : i < length (take n named) = rw (length-take-le n named le) h in
-    drop-cons (take n named) i 0 l ∙ rw (get_or-take n named i 0 h, add-one i)
-
-pub rest_none : (named : List ℕ) (n : ℕ) → n ≤ length named → drop n (take n named) ≡ []
-rest_none named n le = subst (λ (k : ℕ). drop k (take n named) ≡ []) (length-take-le n named le) (drop-length (take n named))
+-- the tiles that are left after i, and the next of them
+pub rest_next : (named : List ℕ) (i : ℕ) → i < length named → drop i named ≡ get_or named i 0 ∷ drop (i + 1) named
+rest_next named i h = rw (add-one, drop-cons named i 0 h)
 
 module _ (L : Layout) (p : List ℕ) (t : ℕ) (ts : List ℕ) where
   pub need_more : tile_word L p t 0 % L.ids ≡ 0 → need L p (t ∷ ts) ≡ 1 + need L p ts

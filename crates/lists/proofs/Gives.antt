@@ -2,15 +2,17 @@
 use mathlib.Core.Path.{◌≡◌, refl, ap, ◌∙◌}
 use mathlib.Core.Logic.{◌≢◌, ⊎_elim}
 use mathlib.Core.List.{List, [], ◌∷◌}
-use Prim.Native.Nat.{ℕ, zero, suc, ◌+◌, ◌≤◌, ◌<◌}
+use Prim.Native.Nat.{ℕ, zero, suc, ◌+◌, ◌*◌, ◌≤◌, ◌<◌}
 use native.Mathlib.Nat.{not-suc-le-zero}
 use native.Mathlib.Omega.{arith}
 use lib.Dec.{eqb}
-use lib.ListN.{length, drop}
-use lib.Seq.{drop-nil}
+use native.Mathlib.Numerals.{add-one}
+use lib.ListN.{length, drop, set, replicate}
+use lib.Seq.{drop-nil, paste}
+use Rattle.std.proofs.lemmas.List.Edits.{paste_none, fill_from_more}
 use Rattle.numbers.specs.Sum.{one}
 use Rattle.numbers.proofs.Ceil.{eq_or_ne}
-use Rattle.pool.specs.Words.{Layout, Fair, room, header_word, tile_word, block_word}
+use Rattle.pool.specs.Words.{Layout, Fair, start, room, header_word, tile_word, block_word, block_set}
 use Rattle.pool.specs.State.{link_to, times, Holds}
 use Rattle.pool.proofs.Words.{header≤start, start≤room, header_set_lem, header_set_other, length-header_set, tile_header_set, block_set_lem, block_set_other_block, block_set_other_word, length-block_set, header_block_set, tile_block_set, block_header_set}
 use Rattle.pool.proofs.Times.{one_same, one_other, times_differ, times_head, times-tail}
@@ -39,6 +41,17 @@ pub record Given (L : Layout) (T N : ℕ) (p q : List ℕ) (bs fs : List ℕ) : 
 -- ---- poison in the first n places of a block
 
 module _ (L : Layout) (T : ℕ) where
+  -- they are side by side
+  pub fill_paste : (p : List ℕ) (b n : ℕ) → start L T + suc L.ids * b + n < length p
+      → fill L T p b n ≡ paste p (start L T + suc L.ids * b) (replicate n L.poison) n
+  unfolding fill block_set
+  fill_paste p b zero h = paste_none p (start L T + suc L.ids * b) []
+  fill_paste p b (suc n) h =
+      let at = start L T + suc L.ids * b in
+      ap (λ (q : List ℕ). set q (at + n) L.poison) (fill_paste p b n (omega arith))
+      ∙ fill_from_more p at n L.poison (omega arith)
+      ∙ ap (λ (k : ℕ). paste p at (replicate k L.poison) k) (add-one n)
+
   pub length-fill : (p : List ℕ) (b n : ℕ) → length (fill L T p b n) ≡ length p
   unfolding fill
   length-fill p b zero = refl

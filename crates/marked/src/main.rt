@@ -2,196 +2,110 @@
 // Runs the twelve marked cases through bin and through the two questions how a shape covers a tile, each on a freshly opened pool of the screen 64 by 32 with
 // s = 4, then the cases of the screen 60 by 32, and then the pool case to its end. Writes for each marked case the tiles listed, those by corner and those by
 // box, with a star behind those that are wholly covered.
-use calls::{Answered, Found};
+use calls::{Binned, Found};
+use numbers::{Refusal, number_in};
 use screen::{Screen, Tile};
 use shape::{Shape, Vertex};
 use std::io;
-
-fn write(rt: &impl Print, text: &[u8]) -> io::Result<()> {
-    rt.write_all(text)
-}
-
-fn write_number(rt: &impl Print, n: u32) -> io::Result<()> {
-    rt.print(n)
-}
+use touch::Cover;
 
 fn at(x: i32, y: i32) -> Vertex {
     Vertex { x, y }
 }
 
-// The tile's number, and a star behind it where the tile is wholly covered.
-fn write_starred(rt: &impl Print, t: u32, whole: bool) -> io::Result<()> {
-    write(rt, b" ")?;
-    write_number(rt, t)?;
-    if whole {
-        write(rt, b"*")?;
-    }
-    Ok(())
+fn point(x: i32, y: i32) -> Shape {
+    Shape::Point(at(x, y))
 }
 
-// The tile's number, where the answer is not apart.
-fn write_tile(rt: &impl Print, answer: Answered, t: u32) -> io::Result<()> {
-    let cover = answer.cover;
-    if touch::is_touched(cover) {
-        write_starred(rt, t, touch::is_whole(cover))?;
-    }
-    Ok(())
+fn line(ax: i32, ay: i32, bx: i32, by: i32) -> Shape {
+    Shape::Line(at(ax, ay), at(bx, by))
 }
 
-// The tiles that the shape touches, by corner.
-fn write_by_corner(rt: &impl Print, screen: Screen, shape: Shape) -> io::Result<()> {
-    let mut t = 0;
-    while t < 8 {
-        write_tile(rt, calls::corner_cover(screen, Tile(t), shape), t)?;
-        t += 1;
-    }
-    Ok(())
+fn triangle(ax: i32, ay: i32, bx: i32, by: i32, cx: i32, cy: i32) -> Shape {
+    Shape::Triangle(at(ax, ay), at(bx, by), at(cx, cy))
 }
 
-// The tiles that the shape touches, by box.
-fn write_by_box(rt: &impl Print, screen: Screen, shape: Shape) -> io::Result<()> {
-    let mut t = 0;
-    while t < 8 {
-        write_tile(rt, calls::box_cover(screen, Tile(t), shape), t)?;
-        t += 1;
-    }
-    Ok(())
+// The number of the answer, and the tiles and blocks of a bin, which are 0 where it is refused.
+fn write_binned(rt: &impl Print, answer: Result<Binned, Refusal>) -> io::Result<()> {
+    let number = number_in(&answer);
+    let binned = answer.unwrap_or_default();
+    print!(rt;
+        "bin {number}, tiles {}, blocks {}",
+        binned.tiles, binned.blocks
+    )
 }
 
-// The tile's number, where its list begins with the id 7.
-fn write_found(rt: &impl Print, found: Found, t: u32) -> io::Result<()> {
-    if found.number == 0 {
-        if found.id == 7 {
-            write_starred(rt, t, found.whole)?;
-        }
+// The tile's number where the answer is not apart, and a star behind it where the tile is wholly covered.
+fn write_cover(rt: &impl Print, tile: u32, answer: Result<Cover, Refusal>) -> io::Result<()> {
+    match answer {
+        Ok(Cover::Partly) => print!(rt; " {tile}"),
+        Ok(Cover::Wholly) => print!(rt; " {tile}*"),
+        _ => Ok(()),
     }
-    Ok(())
 }
 
-// The tiles whose lists begin with the id 7.
-fn write_listed(rt: &impl Print, pool: &[u32]) -> io::Result<()> {
-    let mut t = 0;
-    while t < 8 {
-        write_found(rt, calls::read(pool, Tile(t), 0), t)?;
-        t += 1;
+// The same of a tile whose list begins with the id 7.
+fn write_found(rt: &impl Print, tile: u32, answer: Result<Found, Refusal>) -> io::Result<()> {
+    match answer {
+        Ok(
+            Found {
+                id: 7,
+                whole: false,
+            },
+        ) => print!(rt; " {tile}"),
+        Ok(Found { id: 7, whole: true }) => print!(rt; " {tile}*"),
+        _ => Ok(()),
     }
-    Ok(())
 }
 
-fn run(rt: &impl Print, name: &[u8], width: u32, shape: Shape) -> io::Result<()> {
+// A line for a shape: what opening and bin answer, and the tiles listed, by corner and by box.
+fn run(rt: &impl Print, name: &str, width: u32, shape: Shape) -> io::Result<()> {
     let screen = Screen {
         width,
         height: 32,
         s: 4,
     };
-    let mut space = [0u32; 296];
-    let pool: &mut [u32] = &mut space;
-    let opened = calls::open(pool, screen, 8);
-    let binned = calls::bin(pool, shape, 7);
-    write(rt, name)?;
-    write(rt, b": open ")?;
-    write_number(rt, opened)?;
-    write(rt, b", bin ")?;
-    write_number(rt, binned.number)?;
-    write(rt, b", tiles ")?;
-    write_number(rt, binned.tiles)?;
-    write(rt, b", blocks ")?;
-    write_number(rt, binned.blocks)?;
-    write(rt, b"; listed")?;
-    write_listed(rt, pool)?;
-    write(rt, b"; corner")?;
-    write_by_corner(rt, screen, shape)?;
-    write(rt, b"; box")?;
-    write_by_box(rt, screen, shape)?;
-    write(rt, b"\n")
-}
-
-// A word of a pool, and 0 past its end.
-fn word(pool: &[u32], i: usize) -> u32 {
-    if i < pool.len() { pool[i] } else { 0 }
+    let mut pool = [0; 296];
+    print!(rt;
+        "{name}: open {}, ",
+        number_in(&calls::open(&mut pool, screen, 8))
+    )?;
+    write_binned(rt, calls::bin(&mut pool, shape, 7))?;
+    print!(rt; "; listed")?;
+    for t in 0..8 {
+        write_found(rt, t, calls::read(&pool, Tile(t), 0))?;
+    }
+    print!(rt; "; corner")?;
+    for t in 0..8 {
+        write_cover(rt, t, calls::corner_cover(screen, Tile(t), shape))?;
+    }
+    print!(rt; "; box")?;
+    for t in 0..8 {
+        write_cover(rt, t, calls::box_cover(screen, Tile(t), shape))?;
+    }
+    println!(rt)
 }
 
 // The eight words of the header.
-fn write_header(rt: &impl Print, pool: &[u32]) -> io::Result<()> {
-    write(rt, b"header")?;
-    let mut k = 0;
-    while k < 8 {
-        write(rt, b" ")?;
-        write_number(rt, word(pool, k))?;
-        k += 1;
+fn write_header(rt: &impl Print, pool: &[u32; 104]) -> io::Result<()> {
+    print!(rt; "header")?;
+    for word in &pool[..8] {
+        print!(rt; " {word}")?;
     }
-    write(rt, b"\n")
+    println!(rt)
 }
 
-// Opens a pool with two blocks. Where that is refused, writes the number and answers false.
-fn opens(rt: &impl Print, pool: &mut [u32], screen: Screen) -> io::Result<bool> {
-    let number = calls::open(pool, screen, 2);
-    if number == 0 {
-        return Ok(true);
-    }
-    write(rt, b"open ")?;
-    write_number(rt, number)?;
-    write(rt, b"\n")?;
-    Ok(false)
-}
-
+// A line: a name, and what the bin of a shape answers.
 fn write_bin(
     rt: &impl Print,
     pool: &mut [u32],
-    name: &[u8],
+    name: &str,
     shape: Shape,
     id: u32,
 ) -> io::Result<()> {
-    let binned = calls::bin(pool, shape, id);
-    write(rt, name)?;
-    write(rt, b": bin ")?;
-    write_number(rt, binned.number)?;
-    write(rt, b", tiles ")?;
-    write_number(rt, binned.tiles)?;
-    write(rt, b", blocks ")?;
-    write_number(rt, binned.blocks)?;
-    write(rt, b"\n")
-}
-
-// Whether two pools have the same words.
-fn same(pool: &[u32], other: &[u32]) -> bool {
-    if pool.len() != other.len() {
-        return false;
-    }
-    let mut i = 0;
-    while i < pool.len() {
-        if word(pool, i) != word(other, i) {
-            return false;
-        }
-        i += 1;
-    }
-    true
-}
-
-fn write_same(rt: &impl Print, pool: &[u32], other: &[u32], name: &[u8]) -> io::Result<()> {
-    if same(pool, other) {
-        write(rt, b"every word as ")?;
-    } else {
-        write(rt, b"some word not as ")?;
-    }
-    write(rt, name)?;
-    write(rt, b"\n")
-}
-
-// Each word of a pool that is not as in another, with its place.
-fn write_changed(rt: &impl Print, pool: &[u32], other: &[u32]) -> io::Result<()> {
-    let mut i = 0;
-    while i < pool.len() {
-        if word(pool, i) != word(other, i) {
-            write(rt, b"word ")?;
-            rt.print(i)?;
-            write(rt, b" not as opened: ")?;
-            write_number(rt, word(pool, i))?;
-            write(rt, b"\n")?;
-        }
-        i += 1;
-    }
-    Ok(())
+    print!(rt; "{name}: ")?;
+    write_binned(rt, calls::bin(pool, shape, id))?;
+    println!(rt)
 }
 
 // The pool case: two blocks, a bin that takes one, a bin that needs three, and a release.
@@ -201,115 +115,69 @@ fn pool_case(rt: &impl Print) -> io::Result<()> {
         height: 32,
         s: 4,
     };
-    let mut first = [0u32; 104];
-    let mut second = [0u32; 104];
-    let mut third = [0u32; 104];
-    let opened: &mut [u32] = &mut first;
-    let before: &mut [u32] = &mut second;
-    let pool: &mut [u32] = &mut third;
-    if !opens(rt, opened, screen)? {
-        return Ok(());
+    let mut pool = [0; 104];
+    if let Err(refusal) = calls::open(&mut pool, screen, 2) {
+        return println!(rt; "open {}", refusal.number());
     }
-    if !opens(rt, before, screen)? {
-        return Ok(());
-    }
-    if !opens(rt, pool, screen)? {
-        return Ok(());
-    }
-    write_header(rt, pool)?;
-    write_bin(rt, pool, b"id 7 at (0, 0)", Shape::Point(at(0, 0)), 7)?;
-    write_bin(
-        rt,
-        before,
-        b"the same in another pool",
-        Shape::Point(at(0, 0)),
-        7,
+    let opened = pool;
+    write_header(rt, &pool)?;
+    let mut before = pool;
+    write_bin(rt, &mut pool, "id 7 at (0, 0)", point(0, 0), 7)?;
+    write_bin(rt, &mut before, "the same in another pool", point(0, 0), 7)?;
+    write_header(rt, &pool)?;
+    write_bin(rt, &mut pool, "id 9 at (256, 256)", point(256, 256), 9)?;
+    let same = pool == before;
+    println!(rt;
+        "{} as before",
+        if same { "every word" } else { "some word not" }
     )?;
-    write_header(rt, pool)?;
-    write_bin(
-        rt,
-        pool,
-        b"id 9 at (256, 256)",
-        Shape::Point(at(256, 256)),
-        9,
+    let released = calls::release(&mut pool, Tile(0));
+    println!(rt;
+        "release of tile 0: {}, blocks {}",
+        number_in(&released),
+        released.unwrap_or_default()
     )?;
-    write_same(rt, pool, before, b"before")?;
-    let released = calls::release(pool, Tile(0));
-    write(rt, b"release of tile 0: ")?;
-    write_number(rt, released.number)?;
-    write(rt, b", blocks ")?;
-    write_number(rt, released.blocks)?;
-    write(rt, b"\n")?;
-    let mark = calls::high_water(pool, Tile(0));
-    write(rt, b"mark of tile 0: ")?;
-    write_number(rt, mark.number)?;
-    write(rt, b", entries ")?;
-    write_number(rt, mark.entries)?;
-    write(rt, b"\n")?;
-    write_changed(rt, pool, opened)
+    let mark = calls::high_water(&pool, Tile(0));
+    println!(rt;
+        "mark of tile 0: {}, entries {}",
+        number_in(&mark),
+        mark.unwrap_or_default()
+    )?;
+    for (i, (word, was)) in pool.iter().zip(&opened).enumerate() {
+        if word != was {
+            println!(rt; "word {i} not as opened: {word}")?;
+        }
+    }
+    Ok(())
 }
 
 fn main(rt: HostRuntime) -> io::Result<()> {
-    run(&rt, b"M1", 64, Shape::Point(at(0, 0)))?;
-    run(&rt, b"M2", 64, Shape::Point(at(256, 100)))?;
-    run(&rt, b"M3", 64, Shape::Point(at(256, 256)))?;
-    run(&rt, b"M4", 64, Shape::Point(at(1024, 10)))?;
-    run(&rt, b"M5", 64, Shape::Point(at(1025, 10)))?;
-    run(&rt, b"M6", 64, Shape::Line(at(100, 100), at(300, 100)))?;
-    run(&rt, b"M7", 64, Shape::Line(at(0, 0), at(512, 512)))?;
-    run(
-        &rt,
-        b"M8",
-        64,
-        Shape::Triangle(at(0, 0), at(512, 512), at(256, 256)),
-    )?;
-    run(
-        &rt,
-        b"M9",
-        64,
-        Shape::Triangle(at(0, 0), at(1024, 0), at(0, 512)),
-    )?;
-    run(
-        &rt,
-        b"M10",
-        64,
-        Shape::Triangle(at(0, 0), at(0, 512), at(1024, 0)),
-    )?;
-    run(
-        &rt,
-        b"M11",
-        64,
-        Shape::Triangle(at(700, 0), at(1024, 0), at(1024, 300)),
-    )?;
-    run(
-        &rt,
-        b"M12",
-        64,
-        Shape::Triangle(at(-1000, -1000), at(5000, -1000), at(-1000, 5000)),
-    )?;
-    run(
-        &rt,
-        b"60 by 32, past the glass",
-        60,
-        Shape::Point(at(1000, 10)),
-    )?;
-    run(
-        &rt,
-        b"60 by 32, at the glass",
-        60,
-        Shape::Point(at(960, 10)),
-    )?;
-    run(
-        &rt,
-        b"60 by 32, to the end of the glass",
-        60,
-        Shape::Triangle(at(0, 0), at(1920, 0), at(0, 1024)),
-    )?;
-    run(
-        &rt,
-        b"60 by 32, one unit less",
-        60,
-        Shape::Triangle(at(0, 0), at(1919, 0), at(0, 1024)),
-    )?;
+    let marked = [
+        ("M1", point(0, 0)),
+        ("M2", point(256, 100)),
+        ("M3", point(256, 256)),
+        ("M4", point(1024, 10)),
+        ("M5", point(1025, 10)),
+        ("M6", line(100, 100, 300, 100)),
+        ("M7", line(0, 0, 512, 512)),
+        ("M8", triangle(0, 0, 512, 512, 256, 256)),
+        ("M9", triangle(0, 0, 1024, 0, 0, 512)),
+        ("M10", triangle(0, 0, 0, 512, 1024, 0)),
+        ("M11", triangle(700, 0, 1024, 0, 1024, 300)),
+        ("M12", triangle(-1000, -1000, 5000, -1000, -1000, 5000)),
+    ];
+    for (name, shape) in marked {
+        run(&rt, name, 64, shape)?;
+    }
+    let narrower = [
+        ("past the glass", point(1000, 10)),
+        ("at the glass", point(960, 10)),
+        ("to the end of the glass", triangle(0, 0, 1920, 0, 0, 1024)),
+        ("one unit less", triangle(0, 0, 1919, 0, 0, 1024)),
+    ];
+    for (name, shape) in narrower {
+        print!(rt; "60 by 32, ")?;
+        run(&rt, name, 60, shape)?;
+    }
     pool_case(&rt)
 }

@@ -95,7 +95,7 @@ abs_mag (negsuc n) h = omega arith
 pub is_arg : (w : Width) {z : ℤ} → SFits w z → Is (kept w z) z (2 ^ hbits w)
 is_arg w {z} f = record { same = to_z-of_z {w = w} f; size = abs_mag z f.sfits }
 
--- a field of a struct is read back as it is (`c.struct_told.given.0.1`)
+-- a field of a struct is read back as it is
 pub kept_is : (w : Width) (z : ℤ) → mag z < 2 ^ hbits w → kept w z ≡ z
 kept_is w z h = to_z-of_z {w = w} (record { sfits = h })
 

@@ -6,3 +6,4 @@ pub mod Is
 pub mod Ceil
 pub mod Sum
 pub mod Flag
+pub mod Reasons

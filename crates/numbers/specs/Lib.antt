@@ -4,3 +4,4 @@ pub mod Is
 pub mod Ceil
 pub mod Sum
 pub mod Flag
+pub mod Refusal

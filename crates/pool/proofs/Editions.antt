@@ -1,15 +1,17 @@
 -- The layout of given words is one of three, which all laws serve; it stays where the fixed words of the header do, and an opening leaves its own.
-use mathlib.Core.Path.{◌≡◌, refl, sym, ap, ap₂, ◌∙◌}
+use mathlib.Core.Path.{◌≡◌, refl, sym, ap, ap₂, ◌∙◌, subst}
 use mathlib.Core.Bool.{Bool, true, false, cond}
 use mathlib.Core.Logic.{◌≢◌, ◌⊎◌, inl, inr, ⊎_elim}
 use mathlib.Core.List.{List}
 use Prim.Native.Nat.{ℕ, ◌-◌, ◌<◌}
 use native.Mathlib.Omega.{arith}
-use borrow.Author.Tests.{eq-eqb, ne_eqb}
+use borrow.Author.Tests.{eq-eqb, eqb-true, ne_eqb}
 use lib.Dec.{eqb}
+use Rattle.std.proofs.lemmas.Bool.{false≢true}
 use Rattle.numbers.proofs.Ceil.{eq_or_ne}
 use Rattle.pool.specs.Words.{Layout, edition, second, Known, one, two_32, two_64, layout_of, Fair, header_word}
-use Rattle.pool.specs.Editions.{Sized}
+use Rattle.pool.specs.declared.edition.Edition.{Edition}
+use Rattle.pool.specs.Editions.{layout_for, Sized}
 use Rattle.pool.specs.Sound.{Opened}
 use Rattle.pool.proofs.Words.{edition_fair, second_fair}
 use Rattle.pool.proofs.Header.{Keeps, keeps_opened}
@@ -54,6 +56,33 @@ pub known_sized : {L : Layout} → Known L → Sized L
 known_sized one = record { fair = edition_fair; ids_are = inl refl; header_is = inl refl; header≤ = omega arith; ids≥ = omega arith; ids≤ = omega arith }
 known_sized two_32 = record { fair = second_fair 32 (omega arith); header_is = inr refl; ids_are = inl refl; header≤ = omega arith; ids≥ = omega arith; ids≤ = omega arith }
 known_sized two_64 = record { fair = second_fair 64 (omega arith); header_is = inr refl; ids_are = inr refl; header≤ = omega arith; ids≥ = omega arith; ids≤ = omega arith }
+
+-- ---- an edition that the code carries
+
+-- its layout is one that there is
+known_as : {L : Layout} (e : Edition) → L.tile ≡ edition.tile → L.limit ≡ edition.limit → L.poison ≡ edition.poison → Known L → e.header ≡ L.header → e.ids ≡ L.ids
+    → Known (layout_for e)
+known_as {L} e t l p k h i =
+    let same : layout_for e ≡ L = λ j. record { header = h j; tile = sym t j; ids = i j; limit = sym l j; poison = sym p j } in
+    subst Known (sym same) k
+
+pub known : (e : Edition) → Known (layout_for e)
+known e =
+    ⊎_elim
+    (λ (h : e.header ≡ 8).
+    known_as e refl refl refl one h (eqb-true e.ids 31 (rw h at e.known)))
+    (λ (n : e.header ≢ 8).
+    ⊎_elim
+    (λ (h : e.header ≡ 10).
+    ⊎_elim (λ (i : e.ids ≡ 31). known_as e refl refl refl two_32 h i)
+    (λ (m : e.ids ≢ 31). known_as e refl refl refl two_64 h (eqb-true e.ids 63 (rw (h, ne_eqb e.ids 31 m) at e.known)))
+    (eq_or_ne e.ids 31))
+    (λ (m : e.header ≢ 10). absurd (false≢true (rw (ne_eqb e.header 8 n, ne_eqb e.header 10 m) at e.known)))
+    (eq_or_ne e.header 10))
+    (eq_or_ne e.header 8)
+
+pub sized : (e : Edition) → Sized (layout_for e)
+sized e = known_sized (known e)
 
 -- of which a header that has not eight words has ten, and a block that has not 31 ids has 63
 pub ten : {L : Layout} → Sized L → L.header ≢ 8 → L.header ≡ 10

@@ -4,7 +4,7 @@ use mathlib.Core.List.{List, [], ◌∷◌, ◌++◌}
 use Prim.Native.Nat.{ℕ, zero, suc, ◌+◌, ◌*◌, ◌-◌, ◌≤◌, ◌<◌}
 use native.Mathlib.Numerals.{add-one}
 use native.Mathlib.Omega.{arith}
-use lib.ListN.{length, set, take, drop, replicate, length-append, length-set, length-replicate}
+use lib.ListN.{length, set, take, drop, replicate, length-append, length-replicate}
 use lib.Seq.{set_comm, sets-eq, length-sets}
 use Rattle.pool.specs.Words.{Layout}
 use Rattle.pool.specs.State.{link_to}
@@ -42,37 +42,6 @@ unfolding written
 written-set p from i v [] h = refl
 written-set p from i v (x ∷ words) h =
     ap (λ (q : List ℕ). written q (suc from) words) (set_comm p i from v x (omega arith)) ∙ written-set (set p from x) (suc from) i v words (omega arith)
-
--- ---- one word v in n places
-
--- p is p₀ with k of them written: writing the rest from there on gives what all of them give
-pub record Filling (p₀ : List ℕ) (from n v : ℕ) (p : List ℕ) (k : ℕ) : Type 0 where
-  pub upto : k ≤ n
-  pub long : length p ≡ length p₀
-  pub rest : written p (from + k) (replicate (n - k) v) ≡ written p₀ from (replicate n v)
-
-pub fill_start : (p : List ℕ) (from n v : ℕ) → Filling p from n v p 0
-fill_start p from n v =
-    let e : from + 0 ≡ from = omega arith in
-    let e' : n - 0 ≡ n = omega arith in
-    record { upto = omega arith; long = refl; rest = rw (e, e') }
-
-pub fill_step : {p₀ : List ℕ} {from n v : ℕ} {p : List ℕ} {k : ℕ} → Filling p₀ from n v p k → k < n → Filling p₀ from n v (set p (from + k) v) (k + 1)
-fill_step {p₀} {from} {n} {v} {p} {k} F h =
-    let a : n - k ≡ suc (n - (k + 1)) = omega arith in
-    let b : from + (k + 1) ≡ suc (from + k) = omega arith in
-    let r : written p (from + k) (v ∷ replicate (n - (k + 1)) v) ≡ written p₀ from (replicate n v) = rw a at F.rest in
-    record {
-      upto = omega arith;
-      long = length-set p (from + k) v ∙ F.long;
-      rest = rw b (sym (written_next p (from + k) v (replicate (n - (k + 1)) v)) ∙ r);
-    }
-
-pub fill_end : {p₀ : List ℕ} {from n v : ℕ} {p : List ℕ} {k : ℕ} → Filling p₀ from n v p k → n ≤ k → p ≡ written p₀ from (replicate n v)
-fill_end {p₀} {from} {n} {v} {p} {k} F h =
-    let a : n - k ≡ 0 = omega arith in
-    let r : written p (from + k) [] ≡ written p₀ from (replicate n v) = rw a at F.rest in
-    sym (written_none p (from + k)) ∙ r
 
 -- ---- n free blocks
 

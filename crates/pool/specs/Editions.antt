@@ -1,7 +1,7 @@
 -- The layout that the code carries, and what it asks of one.
 use Rattle.std.specs.Prelude.{◌≡◌, ◌⊎◌, ◌≤◌}
 use Rattle.pool.specs.Words.{Layout, edition, Fair}
-use Rattle.pool.specs.declared.Edition.{Edition}
+use Rattle.pool.specs.declared.edition.Edition.{Edition}
 
 -- the layout of an edition
 abbrev pub layout_for : Edition → Layout

@@ -1,5 +1,5 @@
 -- The pool as a list of words, and its three kinds of word: of the header, of a tile, of a block.
-use Rattle.std.specs.Prelude.{cond, List, ℕ, suc, ◌+◌, ◌*◌, ◌-◌, ◌<◌, eqb, get_or, set}
+use Rattle.std.specs.Prelude.{Bool, true, false, cond, List, ℕ, suc, ◌+◌, ◌*◌, ◌-◌, ◌<◌, eqb, get_or, set}
 use Rattle.numbers.specs.Flag.{flag}
 
 -- What one edition of the pool differs from another in.
@@ -32,6 +32,10 @@ pub data Known : Layout → Type 0 where
   one : Known edition
   two_32 : Known (second 32)
   two_64 : Known (second 64)
+
+-- whether a header of so many words and blocks with so many ids are those of a layout that there is: 8 and 31, 10 and 31, or 10 and 63
+abbrev pub is_edition : (header ids : ℕ) → Bool
+is_edition header ids = cond (eqb header 8) (eqb ids 31) (cond (eqb header 10) (cond (eqb ids 31) true (eqb ids 63)) false)
 
 -- what the laws ask of a layout
 pub record Fair (L : Layout) : Type 0 where

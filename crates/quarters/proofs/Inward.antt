@@ -1,7 +1,7 @@
 -- Edges that have a square on their inner side have its quarters there: the rectangle of a quarter lies within that of the square.
 use mathlib.Core.Path.{sym}
-use mathlib.Core.Bool.{true, false}
-use Prim.Native.Nat.{ℕ, ◌-◌, ◌/◌, ◌%◌, ◌^◌, ◌≤◌, ◌<◌}
+use mathlib.Core.Bool.{false}
+use Prim.Native.Nat.{ℕ, ◌-◌, ◌/◌, ◌%◌, ◌^◌, ◌<◌}
 use native.Mathlib.Omega.{arith}
 use Rattle.numbers.proofs.Says.{true≢false}
 use Rattle.screen.specs.declared.Screen.{Screen}

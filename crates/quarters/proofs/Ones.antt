@@ -2,41 +2,18 @@
 use mathlib.Core.Path.{◌≡◌, refl, sym, ap, subst, ◌∙◌}
 use mathlib.Core.Logic.{◌≢◌, ◌⊎◌, inl, inr, ⊎_elim}
 use mathlib.Core.List.{List}
-use Prim.Native.Nat.{ℕ, ◌+◌, ◌-◌, ◌*◌, ◌/◌, ◌%◌, ◌^◌, ◌≤◌, ◌<◌, max}
-use native.Mathlib.Nat.{mul-le-mul_left, mul-le-mul_right}
+use Prim.Native.Nat.{ℕ, ◌+◌, ◌-◌, ◌*◌, ◌/◌, ◌%◌, ◌^◌, ◌≤◌, ◌<◌}
+use native.Mathlib.Nat.{mul-le-mul_right}
 use native.Mathlib.Omega.{arith}
 use lib.Pow.{pow-add}
-use lib.ListN.{length, get_or, set, length-set}
-use lib.Seq.{get_or-set_same, get_or-set_other}
 use Rattle.numbers.proofs.Ceil.{lt_or_ge, eq_or_ne}
 use Rattle.screen.specs.declared.Screen.{Screen}
-use Rattle.screen.specs.Screen.{Allowed, columns, rows, tiles, column_of, row_of, tile_at}
-use Rattle.screen.proofs.Laws.{column_row, column<, row<, column_is, row_is, tile<}
+use Rattle.screen.specs.Screen.{Allowed, columns, rows, column_of, row_of, tile_at}
+use Rattle.screen.proofs.Laws.{column_row, column<, column_is, row_is, tile<}
 use Rattle.shape.specs.declared.Shape.{Shape}
 use Rattle.quarters.specs.declared.Square.{Square}
 use Rattle.quarters.specs.Square.{InSquare, TouchedIn, past_of, beside_of, first_quarter, TouchedInFirst, Small}
 use Rattle.quarters.specs.Map.{BytesSet, RowSet, WithOnes}
-
--- ---- bytes, one after another
-
-pub bytes_none : {v from : ℕ} (old : List ℕ) → BytesSet v from from old old
-bytes_none old = record { size = refl; within = λ i l h. absurd (omega arith); under = λ i l. refl; over = λ i l h. refl }
-
-pub bytes_more : {v from to : ℕ} {old new : List ℕ} → from ≤ to → to < length old → BytesSet v from to old new → BytesSet v from (to + 1) old (set new to v)
-bytes_more {v} {from} {to} {old} {new} f l b =
-    record {
-      size = length-set new to v ∙ b.size;
-      within = λ i h k. ⊎_elim
-          (λ (e : i ≡ to). subst (λ (n : ℕ). get_or (set new to v) n 0 ≡ v) (sym e) (get_or-set_same new to v 0 (let s = b.size in omega arith)))
-          (λ (e : i ≢ to). get_or-set_other new to i v 0 e ∙ b.within i h (omega arith))
-          (eq_or_ne i to);
-      under = λ i h. get_or-set_other new to i v 0 (λ e. omega arith) ∙ b.under i h;
-      over = λ i h k. get_or-set_other new to i v 0 (λ e. omega arith) ∙ b.over i h (omega arith);
-    }
-
--- and no more where the end is reached, or lies before the start
-pub bytes_end : {v from i to : ℕ} {old new : List ℕ} → to ≤ i → i ≤ max from to → BytesSet v from i old new → BytesSet v from to old new
-bytes_end l h b = record { size = b.size; within = λ k f u. b.within k f (omega arith); under = b.under; over = λ k f u. b.over k f (omega arith) }
 
 -- ---- ones, one part after another
 
@@ -78,10 +55,6 @@ abbrev pub RowsBefore : Screen → Square → (row : ℕ) → ℕ → Type 0
 RowsBefore d q row t = InSquare d q t × (row_of d t < row)
 
 module _ (d : Screen) (a : Allowed d) (q : Square) where
-  -- the tiles of a row are among those of the screen
-  pub row_among_tiles : {row : ℕ} → row < rows d → row * columns d + columns d ≤ tiles d
-  row_among_tiles {row} h = let w : columns d * (row + 1) ≤ columns d * rows d = mul-le-mul_left (columns d) (omega arith) in omega arith
-
   abbrev past : ℕ
   past = past_of (columns d) q.column q.exponent
 
@@ -124,12 +97,6 @@ module _ (d : Screen) (a : Allowed d) (q : Square) where
             let l = h.1 in
             ⊎_elim (λ (k : row_of d t < row). inl (h.0, k)) (λ (k : row ≤ row_of d t). inr (row_of_tile t h.0 (omega arith))) (lt_or_ge (row_of d t) row)
 
-  pub no_row : (m : List ℕ) → WithOnes (RowsBefore d q q.row) m m
-  no_row m = ones_none (λ t h. let w = h.0 in let l = h.1 in omega arith)
-
-  pub all_rows : {row : ℕ} → end ≤ row → {m n : List ℕ} → WithOnes (RowsBefore d q row) m n → WithOnes (InSquare d q) m n
-  all_rows {row} l = ones_iff (λ t h. h.0) (λ t h. let r = row< d a t h.on_grid in (h, omega arith))
-
 -- ---- the four quarters of a square
 
 -- a bit times a number is at most the number
@@ -137,9 +104,6 @@ pub bit≤ : (b h : ℕ) → b ≤ 1 → b * h ≤ h
 bit≤ b h l = let w : b * h ≤ 1 * h = mul-le-mul_right h l in omega arith
 
 module _ (d : Screen) (shape : Shape) (q : Square) where
-  pub no_square : (m : List ℕ) → WithOnes (TouchedInFirst d shape q 0) m m
-  no_square m = ones_none (λ t g. let l = g.1 in omega arith)
-
   pub square_more : {k : ℕ} {m o p : List ℕ} → WithOnes (TouchedInFirst d shape q k) m o → WithOnes (TouchedIn d shape (beside_of q k)) o p
       → WithOnes (TouchedInFirst d shape q (k + 1)) m p
   square_more {k} w v = ones_iff to from (ones_then w v)

@@ -2,19 +2,18 @@
 // The map of the tiles that a shape touches, found by quarters: a square of tiles that is touched is split into four until single tiles are reached. One that
 // is not touched, or is off the grid, is left out, and one that the shape covers wholly is filled without another test.
 ghost use Rattle.std.specs.Prelude.{◌≡◌, ℕ, ◌+◌, ◌*◌, ◌^◌, ◌≤◌, ◌<◌, length};
-ghost use Rattle.screen.specs.Screen.{Allowed, columns, rows, tiles};
+ghost use Rattle.numbers.specs.Refusal.{number_in};
+ghost use Rattle.screen.specs.Screen.{columns, rows, tiles};
 ghost use Rattle.shape.specs.Shape.{InRange};
-ghost use Rattle.touch.specs.Corner.{bounds};
-ghost use Rattle.touch.specs.Edges.{starts, Outline};
 ghost use Rattle.walk.specs.Row.{outlined};
 ghost use Rattle.quarters.specs.Square.{InSquare, StartsOnGrid, past_of, square_rectangle, SquareSays, InwardOn};
 ghost use Rattle.quarters.specs.Square.{beside_of, first_quarter, TouchedInFirst, Small, Smallest, HoldsGrid};
 ghost use Rattle.quarters.specs.Map.{Mapped, MapSays, BytesSet, RowSet, WithOnes};
 
-use numbers::wide;
-use screen::{Rectangle, Screen};
+use numbers::{Refusal, wide};
+use screen::{Grid, Rectangle, Screen};
 use shape::Shape;
-use touch::{Bounds, Cover, Edges, Inward, Looked};
+use touch::{Cover, Figure, Inward, Looked};
 
 // A square of 2^exponent by 2^exponent tiles, by the column and the row of its first.
 #[derive(Clone, Copy)]
@@ -24,165 +23,137 @@ struct Square {
     exponent: u32,
 }
 
-// The side of a square, in tiles.
-fn side_in_tiles(exponent: u32) -> u32
-    requires { exponent ≤ 9 }
-    ensures { (result ≡ 2 ^ exponent) × (result ≤ 512) }
-{
-    1 << exponent
-}
+impl Square {
+    // The side, in tiles.
+    fn side(self) -> u32
+        requires { self.exponent ≤ 9 }
+        ensures { (result ≡ 2 ^ self.exponent) × (result ≤ 512) }
+    {
+        1 << self.exponent
+    }
 
-// Of n tiles along an axis, one past the last of the 2^exponent from k on.
-fn past_of(n: u32, k: u32, exponent: u32) -> u32
-    requires { (k ≤ 512) × (exponent ≤ 9) }
-    ensures { result ≡ past_of n k exponent }
-{
-    let past = k + side_in_tiles(exponent);
-    if past < n { past } else { n }
-}
+    // Of n tiles along an axis, one past the last of a side from k on.
+    fn past(self, n: u32, k: u32) -> u32
+        requires { (k ≤ 512) × (self.exponent ≤ 9) }
+        ensures { result ≡ past_of n k self.exponent }
+    {
+        let past = k + self.side();
+        past.min(n)
+    }
 
-// The rectangle of the tiles of a square that are on the grid.
-fn rectangle_of(screen: Screen, square: Square) -> Rectangle
-    requires { (Allowed screen) × (StartsOnGrid screen square) × (square.exponent ≤ 9) }
-    ensures { result ≡ square_rectangle screen square }
-{
-    let columns = past_of(screen::columns_of(screen), square.column, square.exponent);
-    let rows = past_of(screen::rows_of(screen), square.row, square.exponent);
-    let left = screen::near_side(screen.width, screen.s, square.column);
-    let right = screen::far_side(screen.width, screen.s, columns - 1);
-    let top = screen::near_side(screen.height, screen.s, square.row);
-    let bottom = screen::far_side(screen.height, screen.s, rows - 1);
-    Rectangle {
-        left,
-        right,
-        top,
-        bottom,
+    // The rectangle of the tiles that are on the grid.
+    fn rectangle(self, grid: Grid) -> Rectangle
+        requires { (StartsOnGrid grid.screen self) × (self.exponent ≤ 9) }
+        ensures { result ≡ square_rectangle grid.screen self }
+    {
+        let columns = self.past(grid.columns(), self.column);
+        let rows = self.past(grid.rows(), self.row);
+        Rectangle {
+            left: grid.left(self.column),
+            right: grid.right(columns - 1),
+            top: grid.top(self.row),
+            bottom: grid.bottom(rows - 1),
+        }
+    }
+
+    // How the figure covers the tiles that are on the grid, taken as one; apart where there are none. Edges that are known to have the square on their inner
+    // side are not looked at.
+    fn look(self, grid: Grid, figure: Figure, known: Inward) -> Looked
+        requires small { self.exponent ≤ 9 }
+        requires inward_on { InwardOn known grid.screen figure.edges self }
+        ensures cover { SquareSays result.cover grid.screen (outlined figure.edges) self }
+        ensures inward { InwardOn result.inward grid.screen figure.edges self }
+    {
+        if (grid.columns() <= self.column) | (grid.rows() <= self.row) {
+            return Looked {
+                cover: Cover::Apart,
+                inward: known,
+            };
+        }
+        figure.look(known, self.rectangle(grid))
+    }
+
+    // Writes 1 for each tile of the square in a row, and no other byte.
+    fn set_row(self, grid: Grid, row: u32, map: &mut [u8])
+        requires { (Small self) × (row < rows grid.screen) × (tiles grid.screen ≤ length map.old) }
+        ensures { RowSet grid.screen self row map.old map.new }
+    {
+        let columns = grid.columns();
+        let start = self.column;
+        let end = self.past(columns, start);
+        let base = row * columns;
+        set_bytes(map, wide(base + start), wide(base + end), 1);
+    }
+
+    // Writes 1 for each tile that is on the grid, and no other byte.
+    fn set_tiles(self, grid: Grid, map: &mut [u8])
+        requires { (Small self) × (tiles grid.screen ≤ length map.old) }
+        ensures { WithOnes (InSquare grid.screen self) map.old map.new }
+    {
+        for row in self.row..self.past(grid.rows(), self.row) {
+            self.set_row(grid, row, map);
+        }
+    }
+
+    // Square k of four squares of one side, of which this is the first: 0 and 1 above, from the left, 2 and 3 below.
+    fn beside(self, k: u32) -> Square
+        requires { (Small (beside_of self k)) × (k < 4) }
+        ensures { result ≡ beside_of self k }
+    {
+        let side = self.side();
+        Square {
+            column: self.column + k % 2 * side,
+            row: self.row + k / 2 * side,
+            exponent: self.exponent,
+        }
+    }
+
+    // The first quarter.
+    fn first_quarter(self) -> Square
+        requires { 0 < self.exponent }
+        ensures { result ≡ first_quarter self }
+    {
+        Square {
+            exponent: self.exponent - 1,
+            ..self
+        }
     }
 }
 
-// How the shape of the edges, whose bounding box is around, covers the tiles of a square that are on the grid, taken as one; apart where there are none. Edges
-// that are known to have the square on their inner side are not looked at.
-fn square_look(
-    screen: Screen,
-    around: Bounds,
-    edges: Edges,
-    known: Inward,
-    square: Square,
-) -> Looked
-    requires allowed { (Allowed screen) × (Outline edges) × (around ≡ bounds (starts edges)) × (square.exponent ≤ 9) }
-    requires inward_on { InwardOn known screen edges square }
-    ensures cover { SquareSays result.cover screen (outlined edges) square }
-    ensures inward { InwardOn result.inward screen edges square }
-{
-    let cover = Cover::Apart;
-    if screen::columns_of(screen) <= square.column {
-        return Looked {
-            cover,
-            inward: known,
-        };
-    }
-    if screen::rows_of(screen) <= square.row {
-        return Looked {
-            cover,
-            inward: known,
-        };
-    }
-    touch::look(around, edges, known, rectangle_of(screen, square))
-}
-
-// Sets the bytes from start on and before end to a value.
+// Sets the bytes from start on and before end to a value; none where the end is not past the start.
 fn set_bytes(map: &mut [u8], start: usize, end: usize, value: u8)
     requires { end ≤ length map.old }
     ensures { BytesSet value start end map.old map.new }
 {
-    let mut i = start;
-    while i < end {
-        map[i] = value;
-        i += 1;
-    }
+    map[start.min(end)..end].fill(value);
 }
 
-// Writes 1 for each tile of the square in a row, and no other byte.
-fn set_row(screen: Screen, square: Square, row: u32, map: &mut [u8])
-    requires { (Allowed screen) × (Small square) × (row < rows screen) × (tiles screen ≤ length map.old) }
-    ensures { RowSet screen square row map.old map.new }
-{
-    let columns = screen::columns_of(screen);
-    let start = square.column;
-    let end = past_of(columns, start, square.exponent);
-    let base = row * columns;
-    set_bytes(map, wide(base + start), wide(base + end), 1);
-}
-
-// Writes 1 for each tile of the square that is on the grid, and no other byte.
-fn set_tiles(screen: Screen, square: Square, map: &mut [u8])
-    requires { (Allowed screen) × (Small square) × (tiles screen ≤ length map.old) }
-    ensures { WithOnes (InSquare screen square) map.old map.new }
-{
-    let end = past_of(screen::rows_of(screen), square.row, square.exponent);
-    let mut row = square.row;
-    while row < end {
-        set_row(screen, square, row, map);
-        row += 1;
-    }
-}
-
-// Square k of four squares of one side, of which this is the first: 0 and 1 above, from the left, 2 and 3 below.
-fn beside(first: Square, k: u32) -> Square
-    requires { (Small (beside_of first k)) × (k < 4) }
-    ensures { result ≡ beside_of first k }
-{
-    let side = side_in_tiles(first.exponent);
-    let column = first.column + k % 2 * side;
-    let row = first.row + k / 2 * side;
-    Square {
-        column,
-        row,
-        exponent: first.exponent,
-    }
-}
-
-// The first quarter of a square.
-fn first_quarter(square: Square) -> Square
-    requires { 0 < square.exponent }
-    ensures { result ≡ first_quarter square }
-{
-    Square {
-        column: square.column,
-        row: square.row,
-        exponent: square.exponent - 1,
-    }
-}
-
-// Writes 1 for each tile that the shape of the edges touches of so many of the four squares of which this is the first, and no other byte. The shape's bounding
-// box is around; edges that are known to have all these squares on their inner side are not looked at.
+// Writes 1 for each tile that the figure touches of so many of the four squares of which this is the first, and no other byte. Edges that are known to have all
+// these squares on their inner side are not looked at. A call takes so many squares, and not one, for speed, and is lent the figure: a copy of it would be a call
+// of memcpy, of which the archive has none.
 fn fill_squares(
-    screen: Screen,
-    around: Bounds,
-    edges: Edges,
+    grid: Grid,
+    figure: &Figure,
     known: Inward,
     first: Square,
     count: u32,
     map: &mut [u8],
 )
-    requires allowed { (Allowed screen) × (Outline edges) × (around ≡ bounds (starts edges)) × (count ≤ 4) × (tiles screen ≤ length map.old) }
-    requires by_index { (k : ℕ) → k < count → Small (beside_of first k) × InwardOn known screen edges (beside_of first k) }
-    ensures { WithOnes (TouchedInFirst screen (outlined edges) first count) map.old map.new }
+    requires allowed { (count ≤ 4) × (tiles grid.screen ≤ length map.old) }
+    requires by_index { (k : ℕ) → k < count → Small (beside_of first k) × InwardOn known grid.screen figure.now.edges (beside_of first k) }
+    ensures { WithOnes (TouchedInFirst grid.screen (outlined figure.now.edges) first count) map.old map.new }
 {
-    let mut k = 0;
-    while k < count {
-        let square = beside(first, k);
-        let looked = square_look(screen, around, edges, known, square);
+    for k in 0..count {
+        let square = first.beside(k);
+        let looked = square.look(grid, *figure, known);
         let cover = looked.cover;
-        if touch::is_touched(cover) {
-            if touch::is_whole(cover) | (square.exponent == 0) {
-                set_tiles(screen, square, map);
+        if cover.is_touched() {
+            if cover.is_whole() | (square.exponent == 0) {
+                square.set_tiles(grid, map);
             } else {
-                let inward = looked.inward;
-                fill_squares(screen, around, edges, inward, first_quarter(square), 4, map);
+                fill_squares(grid, figure, looked.inward, square.first_quarter(), 4, map);
             }
         }
-        k += 1;
     }
 }
 
@@ -191,64 +162,51 @@ fn exponent_of(m: u32, n: u32) -> u32
     requires { (m ≤ 512) × (n ≤ 512) }
     ensures { (Smallest m n result) × (result ≤ 9) }
 {
-    let most = if m < n { n } else { m };
-    let mut exponent = 0;
-    while side_in_tiles(exponent) < most {
-        exponent += 1;
-    }
-    exponent
+    let most = m.max(n);
+    most.next_power_of_two().ilog2()
 }
 
 // The smallest square that holds the grid.
-fn square_of(screen: Screen) -> Square
-    requires { Allowed screen }
-    ensures { HoldsGrid screen result }
+fn square_of(grid: Grid) -> Square
+    ensures { HoldsGrid grid.screen result }
 {
     Square {
         column: 0,
         row: 0,
-        exponent: exponent_of(screen::columns_of(screen), screen::rows_of(screen)),
+        exponent: exponent_of(grid.columns(), grid.rows()),
     }
 }
 
 // Writes the map of a shape: a byte for each tile, 1 where the shape touches it and 0 elsewhere. Bytes past the tiles stay.
-fn map_touched(screen: Screen, shape: Shape, map: &mut [u8])
-    requires { (Allowed screen) × (InRange shape) × (tiles screen ≤ length map.old) }
-    ensures { Mapped screen shape map.old map.new }
+fn map_touched(grid: Grid, shape: Shape, map: &mut [u8])
+    requires { (InRange shape) × (tiles grid.screen ≤ length map.old) }
+    ensures { Mapped grid.screen shape map.old map.new }
 {
-    set_bytes(map, 0, wide(screen::tiles_of(screen)), 0);
-    let vertices = touch::three_of(shape);
-    let around = touch::bounds_of(vertices);
+    set_bytes(map, 0, wide(grid.tiles()), 0);
     let known = Inward {
         ab: false,
         bc: false,
         ca: false,
     };
-    fill_squares(
-        screen,
-        around,
-        touch::edges_of(vertices),
-        known,
-        square_of(screen),
-        1,
-        map,
-    );
+    let figure = touch::figure_of(touch::three_of(shape));
+    fill_squares(grid, &figure, known, square_of(grid), 1, map);
 }
 
-// Writes the map of a whole-number shape: 0, or 1 for the screen, 7 for the shape, 11 for a map with fewer bytes than the screen has tiles, in that order, with
-// no byte written.
-pub fn map(screen: Screen, shape: Shape, map: &mut [u8]) -> u32
-    ensures { MapSays screen shape map.old result map.new }
+// Writes the map of a whole-number shape. It is refused for the screen, for the shape, and for a map with fewer bytes than the screen has tiles, in that order,
+// with no byte written.
+pub fn map(screen: Screen, shape: Shape, map: &mut [u8]) -> Result<(), Refusal>
+    ensures { MapSays screen shape map.old (number_in result) map.new }
 {
     if !screen::allowed(screen) {
-        return 1;
+        return Err(Refusal::Screen);
     }
     if !shape::in_range(shape) {
-        return 7;
+        return Err(Refusal::OutOfRange);
     }
-    if map.len() < wide(screen::tiles_of(screen)) {
-        return 11;
+    let grid = Grid { screen };
+    if map.len() < wide(grid.tiles()) {
+        return Err(Refusal::ShortSlice);
     }
-    map_touched(screen, shape, map);
-    0
+    map_touched(grid, shape, map);
+    Ok(())
 }

@@ -1,5 +1,5 @@
 pub mod Spans
 pub mod Sizes
 pub mod Laws
-pub mod Axis
+pub mod Along
 pub mod Held

@@ -41,7 +41,8 @@ fn placed(vertex: Vertex) -> bool
     unit_in_range(vertex.x) & unit_in_range(vertex.y)
 }
 
-// Whether every coordinate of the shape is in range.
+// Whether every coordinate of the shape is in range. Callees ask it by a clause and not by a type: the fact is by cases on the shape, and a type would have to
+// carry a proof that two proofs of it are one.
 pub fn in_range(shape: Shape) -> bool
     ensures { Says result (InRange shape) }
 {

@@ -1,11 +1,11 @@
 -- A lent list of shapes: so many words to a shape, of which the first seven are its kind and six coordinates.
-use Rattle.std.specs.Prelude.{◌≡◌, cond, List, ℕ, ◌+◌, ◌*◌, ◌/◌, ◌%◌, ◌≤◌, ◌<◌, length, get_or, ℤ, pos}
+use Rattle.std.specs.Prelude.{◌≡◌, cond, List, Result, Ok, Err, ℕ, ◌+◌, ◌*◌, ◌/◌, ◌%◌, ◌≤◌, ◌<◌, length, get_or, ℤ, pos}
 use Rattle.std.specs.Int.Signed.{le_z}
+use Rattle.numbers.specs.declared.Refusal.{Refusal}
+use Rattle.numbers.specs.declared.Refusal.TheVariants as why
 use Rattle.shape.specs.declared.Vertex.{Vertex}
 use Rattle.shape.specs.declared.Shape.{Shape}
 use Rattle.shape.specs.declared.Shape.TheVariants.{Point, Line, Triangle}
-use Rattle.shapes.specs.declared.Checked.{Checked}
-use Rattle.shapes.specs.declared.Checked.TheVariants.{Right, Wrong}
 
 -- ---- the words of one shape, counted from 0
 
@@ -49,7 +49,7 @@ pub record RightList (size : ℕ) (ws : List ℤ) : Type 0 where
   pub few : count_of size ws ≤ 1048576
   pub each : (place : ℕ) → place < count_of size ws → RightWords (words_at size ws place)
 
--- the answer of the check
-abbrev pub CheckSays : (size : ℕ) → List ℤ → Checked → Type 0
-CheckSays size ws (Right count) = RightList size ws × (count ≡ count_of size ws)
-CheckSays size ws Wrong = RightList size ws → ⊥
+-- the answer of the check: how many shapes there are, or why the list is refused
+abbrev pub CheckSays : (size : ℕ) → List ℤ → Result ℕ Refusal → Type 0
+CheckSays size ws (Ok count) = RightList size ws × (count ≡ count_of size ws)
+CheckSays size ws (Err r) = (RightList size ws → ⊥) × (r ≡ why.BadList)

@@ -5,5 +5,4 @@ pub mod Product
 pub mod Whole
 pub mod Sum
 pub mod Limit
-pub mod Joins
 pub mod Shapes

@@ -11,29 +11,30 @@ use lib.Ieee.Fits.{down_pos, and_i}
 use lib.Ieee.Bits.{is_true}
 use lib.Ieee.Nearest.{closest}
 use lib.Ieee.Scale.{finite}
+use Rattle.std.proofs.Common.{Result, Ok, Err}
 use Rattle.numbers.specs.Says.{Says}
 use Rattle.shape.specs.Shape.{InUnits, in_units}
 use Rattle.shape.proofs.Range.{in_units_test}
 use Rattle.snap.specs.Nearest.{away}
 use Rattle.snap.specs.Unit.{signed, HasUnit, Right, accept, unit_of}
-use Rattle.snap.specs.declared.Snapped.{Snapped}
-use Rattle.snap.specs.declared.Snapped.TheVariants.{Refused}
+use Rattle.numbers.specs.declared.Refusal.{Refusal}
+use Rattle.numbers.specs.declared.Refusal.TheVariants.{NotFinite, OutOfRange}
 use Rattle.snap.proofs.OneNearest.{closest_nearest, nearest_closest}
 
 -- ---- the range
 
-pub accept_in_range : (z : ℤ) → InUnits z → accept z ≡ Snapped.Unit z
+pub accept_in_range : (z : ℤ) → InUnits z → accept z ≡ Ok z
 accept_in_range z h =
-    ap (λ (b : Bool). cond b (Snapped.Unit z) (Refused 7)) (is_true (in_units z) (and_i (le_z (negsuc 262143) z) (le_z z (pos 262143)) h.low.le h.high.le))
+    ap (λ (b : Bool). cond b (Ok z) (Err OutOfRange)) (is_true (in_units z) (and_i (le_z (negsuc 262143) z) (le_z z (pos 262143)) h.low.le h.high.le))
 
-pub accept_out_of_range : (z : ℤ) → (InUnits z → ⊥) → accept z ≡ Refused 7
+pub accept_out_of_range : (z : ℤ) → (InUnits z → ⊥) → accept z ≡ Err OutOfRange
 accept_out_of_range z f = go (in_units z) (in_units_test z)
   where
-    go : (b : Bool) → Says b (InUnits z) → cond b (Snapped.Unit z) (Refused 7) ≡ Refused 7
+    go : (b : Bool) → Says b (InUnits z) → cond b (Ok z) (Err OutOfRange) ≡ Err OutOfRange
     go true h = absurd (f (h.yes refl))
     go false h = refl
 
-pub large_is_refused : (s : Bool) (u : ℕ) → 262144 < u → accept (signed s u) ≡ Refused 7
+pub large_is_refused : (s : Bool) (u : ℕ) → 262144 < u → accept (signed s u) ≡ Err OutOfRange
 large_is_refused false u h =
     accept_out_of_range (pos u) (λ i. omega (arith, leb→le u 262143 i.high.le))
 large_is_refused true zero h = absurd (omega arith)
@@ -62,7 +63,7 @@ unit_answer nan z p = absurd p
 unit_answer (inf s) z p = absurd p
 unit_answer (fin s m e) z p = ap accept (sym (nearest_closest s (16 * (m * up e)) (down_pos e) p))
 
-not_finite_answer : (v : Float) → T (not (finite v)) → unit_of v ≡ Refused 6
+not_finite_answer : (v : Float) → T (not (finite v)) → unit_of v ≡ Err NotFinite
 unfolding unit_of
 not_finite_answer nan t = refl
 not_finite_answer (inf s) t = refl
@@ -76,7 +77,7 @@ unit_of_is_right v =
       done = λ z p i. unit_answer v z p ∙ accept_in_range z i;
     }
 
-pub right_is_unit_of : (v : Float) (r : Snapped) → Right v r → r ≡ unit_of v
+pub right_is_unit_of : (v : Float) (r : Result ℤ Refusal) → Right v r → r ≡ unit_of v
 right_is_unit_of v r h = go (finite v) refl
   where
     at : (z : ℤ) → HasUnit v z → (b : Bool) → Says b (InUnits z) → r ≡ unit_of v
@@ -91,14 +92,14 @@ right_is_unit_of v r h = go (finite v) refl
 
 -- ---- a unit that is answered is the coordinate's, at most a half away from sixteen times it
 
-accepted_is : (y z : ℤ) → accept y ≡ Snapped.Unit z → y ≡ z
+accepted_is : (y z : ℤ) → accept y ≡ Ok z → y ≡ z
 accepted_is y z = go (in_units y)
   where
-    go : (b : Bool) → cond b (Snapped.Unit y) (Refused 7) ≡ Snapped.Unit z → y ≡ z
+    go : (b : Bool) → cond b (Ok y) (Err OutOfRange) ≡ Ok z → y ≡ z
     go true e = cc
     go false e = cc
 
-pub answered_is_unit : (v : Float) {z : ℤ} → unit_of v ≡ Snapped.Unit z → HasUnit v z
+pub answered_is_unit : (v : Float) {z : ℤ} → unit_of v ≡ Ok z → HasUnit v z
 unfolding unit_of
 answered_is_unit nan e = let i : ◌≡◌ {A = ℕ} 0 1 = cc in absurd (omega arith)
 answered_is_unit (inf s) e = let i : ◌≡◌ {A = ℕ} 0 1 = cc in absurd (omega arith)
@@ -106,5 +107,5 @@ answered_is_unit (fin s m k) {z} e =
     let n = 16 * (m * up k) in
     subst (HasUnit (fin s m k)) (accepted_is (signed s (closest n (down k))) z e) (closest_nearest s n (down_pos k))
 
-pub at_most_half_a_unit : (s : Bool) (m : ℕ) (e : ℤ) {z : ℤ} → unit_of (fin s m e) ≡ Snapped.Unit z → 2 * away (signed s (16 * (m * up e))) (down e) z ≤ down e
+pub at_most_half_a_unit : (s : Bool) (m : ℕ) (e : ℤ) {z : ℤ} → unit_of (fin s m e) ≡ Ok z → 2 * away (signed s (16 * (m * up e))) (down e) z ≤ down e
 at_most_half_a_unit s m e h = (answered_is_unit (fin s m e) h).near

@@ -80,12 +80,12 @@ module _ (d : Screen) (ok : Allowed d) (e : Edges) (on : OnScreen d (outlined e)
       words_then le (omega arith) k (words_map (Flagged d shape) (named_flagged d ok shape row within whole) w)
 
   -- the first row, in which the start tile is the one that is found, and is not counted
-  going_from_start : (step : Step) {tested : List ℕ} {tests n : ℕ} {Q : ℕ → Type 0} (old new : List ℕ)
+  going_from_start : (step : Step) {tested : List ℕ} {tests n : ℕ} {Q : ℕ → Type 0} {old new : List ℕ}
       → InRow d shape (start_row d shape) (start_column d shape) step.run tested
       → tests ≡ length tested + 1 → WholeIn d shape (start_row d shape) step.run step.whole
       → Run Q (start_row d shape * columns d) step.run.start step.run.end 0 n (plains old) (plains new)
       → Words (Named (start_row d shape * columns d) step.run step.whole) 0 n old new → Going d shape (start_row d shape + 1) step.run tests n old new
-  going_from_start step {tested} {tests} {n} old new f e whole r w =
+  going_from_start step {tested} {tests} {n} {old = old} {new = new} f e whole r w =
       let s = Steps.start f in
       let l = start_row< d ok shape on in
       record {
@@ -103,11 +103,11 @@ module _ (d : Screen) (ok : Allowed d) (e : Edges) (on : OnScreen d (outlined e)
         );
       }
 
-  going_first : {first column columns' n : ℕ} {step : Step} {Q : ℕ → Type 0} (old new : List ℕ) → first ≡ start_row d shape
+  going_first : {first column columns' n : ℕ} {step : Step} {Q : ℕ → Type 0} {old new : List ℕ} → first ≡ start_row d shape
       → column ≡ start_column d shape → columns' ≡ columns d
       → FromAbove d shape first (record { start = column; end = column + 1 }) step → Run Q (first * columns') step.run.start step.run.end 0 n (plains old) (plains new)
       → Words (Named (first * columns') step.run step.whole) 0 n old new → Going d shape (first + 1) step.run step.tests n old new
-  going_first {first} {column} {columns'} {n} {step} {Q} old new a b c f r w =
+  going_first {first} {column} {columns'} {n} {step} {Q} {old} {new} a b c f r w =
       let x = find_found d shape first f.find in
       let u = x.before in
       let v = x.from in
@@ -115,7 +115,7 @@ module _ (d : Screen) (ok : Allowed d) (e : Edges) (on : OnScreen d (outlined e)
       let m = f.many in
       let same : f.found ≡ start_column d shape = omega arith in
       subst (λ (k : ℕ). Going d shape (k + 1) step.run step.tests n old new) (sym a)
-      (going_from_start step old new (subst (λ (P : Type 0). P) (λ i. InRow d shape (a i) (same i) step.run f.beside) f.row_tests) (omega arith)
+      (going_from_start step (subst (λ (P : Type 0). P) (λ i. InRow d shape (a i) (same i) step.run f.beside) f.row_tests) (omega arith)
       (subst (λ (k : ℕ). WholeIn d shape k step.run step.whole) a f.whole)
       (subst (λ (k : ℕ). Run Q k step.run.start step.run.end 0 n (plains old) (plains new)) (λ i. a i * c i) r)
       (subst (λ (k : ℕ). Words (Named k step.run step.whole) 0 n old new) (λ i. a i * c i) w))
@@ -132,14 +132,14 @@ module _ (d : Screen) (ok : Allowed d) (e : Edges) (on : OnScreen d (outlined e)
       let z = row_end≤ d ok shape f.row_tests in
       omega arith
 
-  module _ {row tests count : ℕ} {run : Span} (old mid : List ℕ) (g : Going d shape row run tests count old mid) where
+  module _ {row tests count : ℕ} {run : Span} {old mid : List ℕ} (g : Going d shape row run tests count old mid) where
     whole : WholeRun d shape g.before run
     whole = steps_whole d ok shape on g.steps
 
-    going_on : {columns' : ℕ} {step : Step} {Q : ℕ → Type 0} {n : ℕ} (new : List ℕ) → columns' ≡ columns d → row < rows d → FromAbove d shape row run step
+    going_on : {columns' : ℕ} {step : Step} {Q : ℕ → Type 0} {n : ℕ} {new : List ℕ} → columns' ≡ columns d → row < rows d → FromAbove d shape row run step
         → Run Q (row * columns') step.run.start step.run.end count n (plains mid) (plains new)
         → Words (Named (row * columns') step.run step.whole) count n mid new → Going d shape (row + 1) step.run (tests + step.tests) n old new
-    going_on {columns'} {step} {Q} {n} new e row< f r' w' =
+    going_on {columns'} {step} {Q} {n} {new} e row< f r' w' =
         let r = subst (λ (k : ℕ). Run Q (row * k) step.run.start step.run.end count n (plains mid) (plains new)) e r' in
         let v = subst (λ (k : ℕ). Words (Named (row * k) step.run step.whole) count n mid new) e w' in
         let a : FromAbove d shape (suc g.before) run step = subst (λ (k : ℕ). FromAbove d shape k run step) g.next f in
@@ -246,11 +246,11 @@ pub data Walking (d : Screen) (shape : Shape) (row : ℕ) (run : Span) (tests co
       → Walking d shape row run tests count old new
   goes : Going d shape row run tests count old new → Walking d shape row run tests count old new
 
-module _ (d : Screen) (ok : Allowed d) (e : Edges) (on : OnScreen d (outlined e)) {row tests count : ℕ} {run : Span} (old mid : List ℕ) where
+module _ (d : Screen) (ok : Allowed d) (e : Edges) (on : OnScreen d (outlined e)) {row tests count : ℕ} {run : Span} {old mid : List ℕ} where
   -- the row is not before the start row, and the list is as long as it was
   pub walking_from : Walking d (outlined e) row run tests count old mid → start_row d (outlined e) ≤ row
   walking_from (Walking.begins a b t n m) = omega arith
-  walking_from (Walking.goes g) = let l = going_start≤ d ok e on old mid g in omega arith
+  walking_from (Walking.goes g) = let l = going_start≤ d ok e on g in omega arith
 
   pub walking_size : Walking d (outlined e) row run tests count old mid → length mid ≡ length old
   walking_size (Walking.begins a b t n m) = ap length m
@@ -266,7 +266,7 @@ module _ (d : Screen) (ok : Allowed d) (e : Edges) (on : OnScreen d (outlined e)
       let x = ap (λ (r : Span). r.start) b in
       let y = ap (λ (r : Span). r.end) b in
       (omega arith, omega arith)
-  walking_inside c (Walking.goes g) = going_inside d ok e on old mid g c
+  walking_inside c (Walking.goes g) = going_inside d ok e on g c
 
   -- below it there is a touched tile
   pub walking_below : row < rows d → MeetsRow d e row → Walking d (outlined e) row run tests count old mid → HitIn d (outlined e) row run
@@ -278,29 +278,29 @@ module _ (d : Screen) (ok : Allowed d) (e : Edges) (on : OnScreen d (outlined e)
         inside = record { from = omega arith; before = omega arith };
         hit = subst (λ (k : ℕ). Hit d (outlined e) k (start_column d (outlined e))) (sym a) (start-touched d ok (outlined e) on);
       }
-  walking_below row< m (Walking.goes g) = going_below d ok e on old mid g row< m
+  walking_below row< m (Walking.goes g) = going_below d ok e on g row< m
 
   -- few enough tiles and tests to count
   pub walking_count : Walking d (outlined e) row run tests count old mid → count ≤ row * columns d
   walking_count (Walking.begins a b t n m) = omega arith
-  walking_count (Walking.goes g) = going_count d ok e on old mid g
+  walking_count (Walking.goes g) = going_count d ok e on g
 
   pub walking_few : Walking d (outlined e) row run tests count old mid → tests ≤ 12289
   walking_few (Walking.begins a b t n m) = omega arith
-  walking_few (Walking.goes g) = going_few d ok e on old mid g
+  walking_few (Walking.goes g) = going_few d ok e on g
 
   -- a row more
-  pub walking_on : {columns' n : ℕ} {step : Step} {Q : ℕ → Type 0} (new : List ℕ) → columns' ≡ columns d → row < rows d → FromAbove d (outlined e) row run step
+  pub walking_on : {columns' n : ℕ} {step : Step} {Q : ℕ → Type 0} {new : List ℕ} → columns' ≡ columns d → row < rows d → FromAbove d (outlined e) row run step
       → Run Q (row * columns') step.run.start step.run.end count n (plains mid) (plains new)
       → Words (Named (row * columns') step.run step.whole) count n mid new → Walking d (outlined e) row run tests count old mid
       → Walking d (outlined e) (row + 1) step.run (tests + step.tests) n old new
-  walking_on {columns'} {n} {step} {Q} new c row< f r w (Walking.begins a b t z m) =
+  walking_on {columns'} {n} {step} {Q} {new} c row< f r w (Walking.begins a b t z m) =
       Walking.goes
       (subst (λ (k : ℕ). Going d (outlined e) (row + 1) step.run k n old new) (omega arith)
-      (going_first d ok e on old new a refl c (subst (λ (s : Span). FromAbove d (outlined e) row s step) b f)
+      (going_first d ok e on a refl c (subst (λ (s : Span). FromAbove d (outlined e) row s step) b f)
       (subst (λ (P : Type 0). P) (λ i. Run Q (row * columns') step.run.start step.run.end (z i) n (plains (m i)) (plains new)) r)
       (subst (λ (P : Type 0). P) (λ i. Words (Named (row * columns') step.run step.whole) (z i) n (m i) new) w)))
-  walking_on new c row< f r w (Walking.goes g) = Walking.goes (going_on d ok e on old mid g new c row< f r w)
+  walking_on c row< f r w (Walking.goes g) = Walking.goes (going_on d ok e on g c row< f r w)
 
   -- after the last row of the box the start tile is counted, and the walk is whole
   pub walking_counted : (span : Span) → MeetingRows d e span → row ≡ span.end → Walking d (outlined e) row run tests count old mid → 1 ≤ tests
@@ -310,4 +310,4 @@ module _ (d : Screen) (ok : Allowed d) (e : Edges) (on : OnScreen d (outlined e)
   pub walking_ends : (span : Span) → MeetingRows d e span → row ≡ span.end → tiles d ≤ length old → Walking d (outlined e) row run tests count old mid
       → WalkedThrough d (outlined e) (record { count = count; tests = tests - 1 }) old mid
   walking_ends span c end room (Walking.begins a b t n m) = let i = (start_row_inside d ok e on c).before in absurd (omega arith)
-  walking_ends span c end room (Walking.goes g) = going_ends d ok e on old mid g span c end room
+  walking_ends span c end room (Walking.goes g) = going_ends d ok e on g span c end room

@@ -1,7 +1,7 @@
 -- The wholly covered tiles of a run stand side by side: the span from the first that the tests found to the last has these and no other.
 use Prim.Native.Nat.{ℕ, suc, ◌+◌, ◌-◌, ◌≤◌, ◌<◌, min, max}
 use mathlib.Core.Path.{◌≡◌, refl, sym, subst}
-use mathlib.Core.Bool.{Bool, true, false, ◌&&◌, true≢false, false≢true}
+use mathlib.Core.Bool.{Bool, ◌&&◌}
 use mathlib.Core.Logic.{◌⊎◌, inl, inr, ⊎_elim, ◌↔◌}
 use native.Mathlib.Omega.{arith}
 use lib.Dec.{leb, ltb}
@@ -42,17 +42,6 @@ module _ (P : ℕ → Type 0) (n column : ℕ) where
       }
 
 -- ---- a column more
-
-module _ (span : Span) (column : ℕ) where
-  pub grown_whole : (r : answer.Cover) → is_whole r ≡ true → joined span column ≡ grown span column r
-  grown_whole answer.TheVariants.Apart e = absurd (false≢true e)
-  grown_whole answer.TheVariants.Partly e = absurd (false≢true e)
-  grown_whole answer.TheVariants.Wholly e = refl
-
-  pub grown_not : (r : answer.Cover) → is_whole r ≡ false → span ≡ grown span column r
-  grown_not answer.TheVariants.Apart e = refl
-  grown_not answer.TheVariants.Partly e = refl
-  grown_not answer.TheVariants.Wholly e = absurd (true≢false e)
 
 module _ (P : ℕ → Type 0) {n from to from' to' column : ℕ} {span : Span} (h : Hull P n from to span)
     (more : (k : ℕ) → from' ≤ k → k < to' → ((from ≤ k) × (k < to)) ⊎ (k ≡ column)) where

@@ -16,7 +16,7 @@ use Rattle.screen.specs.declared.Screen.{Screen}
 use Rattle.screen.specs.declared.Span.{Span}
 use Rattle.screen.specs.Screen.{Allowed, columns, rows}
 use Rattle.screen.specs.Rectangle.{near, far, rectangle_at, In}
-use Rattle.screen.proofs.Axis.{between_tiles}
+use Rattle.screen.proofs.Along.{between_tiles}
 use Rattle.screen.proofs.Laws.{near_rises, far_rises, far-near, near-far, columns≥}
 use Rattle.screen.proofs.Held.{down<, up<, down_near, down_far, up-near, up-far}
 use Rattle.shape.specs.declared.Vertex.{Vertex}
@@ -122,26 +122,6 @@ not_above P v w true u e f p q = p (<ℤ-≤ℤ (record { lt = subst T (sym e) t
 not_above P v w false true e f p q = q (<ℤ-≤ℤ (record { lt = subst T (sym f) tt }))
 not_above P v w false false e f p q =
     picked P (le_z v.x w.x) (p (lt_z_no (subst (λ (b : Bool). T (not b)) (sym f) tt))) (q (lt_z_no (subst (λ (b : Bool). T (not b)) (sym e) tt)))
-
--- what is picked, by the tests
-module _ (v w : Vertex) where
-  pub picks_higher : lt_z v.y w.y ≡ true → v ≡ upper v w
-  unfolding upper
-  picks_higher e = rw e
-
-  module _ (e : lt_z v.y w.y ≡ false) where
-    pub picks_second : lt_z w.y v.y ≡ true → w ≡ upper v w
-    unfolding upper
-    picks_second f = rw (e, f)
-
-    module _ (f : lt_z w.y v.y ≡ false) where
-      pub picks_left : le_z v.x w.x ≡ true → v ≡ upper v w
-      unfolding upper
-      picks_left g = rw (e, f, g)
-
-      pub picks_right : le_z v.x w.x ≡ false → w ≡ upper v w
-      unfolding upper
-      picks_right g = rw (e, f, g)
 
 -- neither of the two is higher
 upper_highest : (v w : Vertex) → ((upper v w).y ≤ℤ v.y) × ((upper v w).y ≤ℤ w.y)

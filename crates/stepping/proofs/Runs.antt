@@ -9,7 +9,6 @@ use Rattle.numbers.proofs.Ceil.{lt_or_ge}
 use Rattle.screen.specs.declared.Screen.{Screen}
 use Rattle.screen.specs.Screen.{columns, tile_at}
 use Rattle.shape.specs.declared.Shape.{Shape}
-use Rattle.walk.specs.Row.{Run}
 use Rattle.walk.proofs.Lists.{up_to}
 use Rattle.stepping.specs.Stepping.{Hit, Right, Left, Find}
 use Rattle.stepping.specs.Row.{Reach, Back}
@@ -24,11 +23,6 @@ down_to {P} {first} {before} {n} e f p k l h = go (lt_or_ge k first)
 -- the one before first is the only one before it
 pub back_stop : (P : ℕ → Type 0) {first before : ℕ} → first ≡ before + 1 → (P before → ⊥) → (k : ℕ) → suc k ≡ first → P k → ⊥
 back_stop P {first} {before} e f k d p = f (subst P (omega arith) p)
-
--- a run to a column by another name
-pub run_to : {P : ℕ → Type 0} {base from stop stop' count n : ℕ} {old new : List ℕ} → stop ≡ stop' → Run P base from stop count n old new
-    → Run P base from stop' count n old new
-run_to {P} {base} {from} {stop} {stop'} {count} {n} {old} {new} e r = subst (λ (m : ℕ). Run P base from m count n old new) e r
 
 module _ (d : Screen) (shape : Shape) (row : ℕ) where
   -- ---- from what is found to the tests

@@ -1,43 +1,54 @@
 -- In a row that meets the bounding box the columns of the box and the edges say which tiles are touched; so what the functions find of a row are the tests
 -- that the definition makes.
 use Prim.Native.Nat.{ℕ, suc, ◌+◌, ◌-◌, ◌≤◌, ◌<◌}
-use mathlib.Core.Path.{◌≡◌}
+use mathlib.Core.Path.{◌≡◌, refl, sym, subst}
+use mathlib.Core.Bool.{Bool, true, false}
 use mathlib.Core.List.{◌++◌}
-use mathlib.Core.Logic.{◌⊎◌, ⊎_elim}
+use mathlib.Core.Logic.{◌⊎◌, inl, inr, ⊎_elim, ◌↔◌}
 use native.Mathlib.Omega.{arith}
+use lib.Dec.{ltb}
 use lib.ListN.{length, length-append}
+use mir.Val.{bool_byte}
+use Rattle.numbers.specs.Says.{Says}
 use Rattle.numbers.proofs.Ceil.{lt_or_ge}
+use Rattle.numbers.proofs.Deciding.{says_lt}
 use Rattle.screen.specs.declared.Screen.{Screen}
 use Rattle.screen.specs.declared.Span.{Span}
 use Rattle.screen.specs.Screen.{Allowed, columns, rows}
-use Rattle.screen.specs.Rectangle.{near, far, In}
+use Rattle.screen.specs.Rectangle.{In}
 use Rattle.screen.proofs.Laws.{rectangle_proper, rectangle_has_area}
 use Rattle.touch.specs.declared.Edges.{Edges}
 use Rattle.touch.specs.declared.RowEdges.{RowEdges}
-use Rattle.touch.specs.Edges.{Outline, row_edges}
+use Rattle.touch.specs.Edges.{Outline}
 use Rattle.touch.proofs.Covering.{outline_enclosed_is_wholly}
 use Rattle.touch.proofs.Theorem.{touching_meets_box, outline_clear_is_touching}
-use Rattle.walk.specs.Row.{ClearIn, EnclosedIn, First, outlined, MeetingColumns, MeetsRow}
+use Rattle.walk.specs.Row.{ClearIn, EnclosedIn, First, InTheRow, outlined, MeetingColumns, MeetsRow}
 use Rattle.stepping.specs.Stepping.{Hit, InRow}
 use Rattle.stepping.specs.Row.{Reach, Back, Hull, WholeIn, HitIn, FromAbove}
 use Rattle.stepping.proofs.Hulls.{hull_is_enclosed}
 use Rattle.stepping.proofs.Runs.{right_tests, left_tests, find_tests}
 
--- a miss, or none: what an `if` adds to a number
-abbrev pub Miss : Type 0 → ℕ → Type 0
+-- a miss, or none: what a flag adds to a number
+abbrev Miss : Type 0 → ℕ → Type 0
 Miss P m = (P × (m ≡ 1)) ⊎ ((P → ⊥) × (m ≡ 0))
 
-module _ (d : Screen) (ok : Allowed d) (e : Edges) (o : Outline e) (span : Span) (c : MeetingColumns d e span) (row : ℕ) (r< : row < rows d) (m : MeetsRow d e row) where
-  abbrev in_row : RowEdges
-  in_row = row_edges e (near d.height d.s row) (far d.height d.s row)
+miss : (x y : ℕ) → Miss (x < y) (bool_byte (ltb x y))
+miss x y = of (ltb x y) (says_lt x y)
+  where
+    of : (r : Bool) → Says r (x < y) → Miss (x < y) (bool_byte r)
+    of true s = inl (s.yes refl, refl)
+    of false s = inr (s.no refl, refl)
 
+module _ (d : Screen) (ok : Allowed d) (e : Edges) (o : Outline e) (span : Span) (c : MeetingColumns d e span) (row : ℕ) (r< : row < rows d) (m : MeetsRow d e row)
+    {in_row : RowEdges} (is : InTheRow d e row in_row) where
   abbrev H : ℕ → Type 0
   H = Hit d (outlined e) row
 
   clear_hit : (k : ℕ) → k < columns d → In span k → ClearIn d in_row k → H k
   clear_hit k k< i q =
       let n = c.sound k i in
-      (outline_clear_is_touching o (rectangle_proper d ok k< r<) (record { left = n.from; right = n.to; top = m.from; bottom = m.to })).0 q
+      (outline_clear_is_touching o (rectangle_proper d ok k< r<) (record { left = n.from; right = n.to; top = m.from; bottom = m.to })).0
+      (subst (λ (r : RowEdges). ClearIn d r k) is.is q)
 
   hit_inside : (k : ℕ) → k < columns d → H k → In span k
   hit_inside k k< h = let b = touching_meets_box h in c.whole k k< (record { from = b.left; to = b.right })
@@ -45,7 +56,8 @@ module _ (d : Screen) (ok : Allowed d) (e : Edges) (o : Outline e) (span : Span)
   hit_clear : (k : ℕ) → k < columns d → H k → ClearIn d in_row k
   hit_clear k k< h =
       let n = c.sound k (hit_inside k k< h) in
-      (outline_clear_is_touching o (rectangle_proper d ok k< r<) (record { left = n.from; right = n.to; top = m.from; bottom = m.to })).1 h
+      subst (λ (r : RowEdges). ClearIn d r k) (sym is.is)
+      ((outline_clear_is_touching o (rectangle_proper d ok k< r<) (record { left = n.from; right = n.to; top = m.from; bottom = m.to })).1 h)
 
   -- the hull of the enclosed columns has those of the wholly covered tiles
   hull_whole : {n : ℕ} {run whole : Span} → n ≤ columns d → run.end ≤ n → Hull (EnclosedIn d in_row) n run.start run.end whole
@@ -53,7 +65,7 @@ module _ (d : Screen) (ok : Allowed d) (e : Edges) (o : Outline e) (span : Span)
   hull_whole {n} {run} {whole} n≤ within h k i =
       let a = i.from in
       let b = i.before in
-      let q = hull_is_enclosed d in_row h k a b (omega arith) in
+      let q = subst (λ (r : RowEdges). In whole k ↔ EnclosedIn d r k) is.is (hull_is_enclosed d in_row h k a b (omega arith)) in
       let w = outline_enclosed_is_wholly o (rectangle_has_area d ok {column = k} {row = row} (omega arith) r<) in
       ((λ x. w.0 (q.0 x)), (λ x. q.1 (w.1 x)))
 
@@ -116,13 +128,16 @@ module _ (d : Screen) (ok : Allowed d) (e : Edges) (o : Outline e) (span : Span)
             ⊎_elim (λ v. let w = b.within in let x = v.1 in let y = v.0 in let t = b.to in f.none k (omega arith) (omega arith) (hit_clear k k< p))
             (λ v. let i = (hit_inside k k< p).from in let x = v.1 in omega arith)
 
-    pub row_found : (start end low missed-right missed-left : ℕ) (whole : Span)
-        → Reach (ClearIn d in_row) span.end (column + 1) end → ((above.start < column) × (low ≡ column)) ⊎ ((column ≤ above.start) × (low ≡ span.start))
-        → Back (ClearIn d in_row) low column start → Miss (end < columns d) missed-right → Miss (0 < start) missed-left
+    pub row_found : {start end low : ℕ} {whole : Span} → Reach (ClearIn d in_row) span.end (column + 1) end
+        → ((above.start < column) × (low ≡ column)) ⊎ ((column ≤ above.start) × (low ≡ span.start)) → Back (ClearIn d in_row) low column start
         → Hull (EnclosedIn d in_row) span.end start end whole
         → FromAbove d (outlined e) row above
-        (record { run = record { start = start; end = end }; whole = whole; tests = column - above.start + (end - start) + missed-right + missed-left })
-    row_found start end low missed-right missed-left whole reach known back mr ml hull =
+        (record {
+          run = record { start = start; end = end };
+          whole = whole;
+          tests = column - above.start + (end - start) + bool_byte (ltb end (columns d)) + bool_byte (ltb 0 start);
+        })
+    row_found {start} {end} {low} {whole} reach known back hull =
         let r = right_hit reach in
         let b = left_hit known back in
         let a = f.from in
@@ -134,10 +149,14 @@ module _ (d : Screen) (ok : Allowed d) (e : Edges) (o : Outline e) (span : Span)
         let left = left_tests d (outlined e) row (column - start) {column = column} {first = start} (omega arith) b in
         let t = find_tests d (outlined e) row (column - above.start) {end = above.end} {column = above.start} {found = column} (omega arith) g
         (λ k l v x. f.none k l v (hit_clear k (omega arith) x)) found_hit in
-        let n : length right.tested + suc column ≡ end + missed-right
-        = ⊎_elim (λ w. let x = right.to_miss w.0 in let y = w.1 in omega arith) (λ w. let x = right.to_edge (let v = w.0 in omega arith) in let y = w.1 in omega arith) mr in
-        let l : length left.tested + start ≡ column + missed-left
-        = ⊎_elim (λ w. let x = left.to_miss w.0 in let y = w.1 in omega arith) (λ w. let x = left.to_edge (let v = w.0 in omega arith) in let y = w.1 in omega arith) ml in
+        let n : length right.tested + suc column ≡ end + bool_byte (ltb end (columns d))
+        = ⊎_elim (λ w. let x = right.to_miss w.0 in let y = w.1 in omega arith)
+        (λ w. let x = right.to_edge (let v = w.0 in omega arith) in let y = w.1 in omega arith)
+        (miss end (columns d)) in
+        let l : length left.tested + start ≡ column + bool_byte (ltb 0 start)
+        = ⊎_elim (λ w. let x = left.to_miss w.0 in let y = w.1 in omega arith)
+        (λ w. let x = left.to_edge (let v = w.0 in omega arith) in let y = w.1 in omega arith)
+        (miss 0 start) in
         let m = t.many in
         let s = length-append right.tested left.tested in
         record {

@@ -1,11 +1,9 @@
 -- Answers that are put together from others, and the corner test as a function to Bool, which answers as `Touches` does.
-use Prim.Native.Nat.{ℕ}
-use mathlib.Core.Path.{◌≡◌, refl, sym, ap, subst, ◌∙◌}
+use mathlib.Core.Path.{◌≡◌, refl, sym, subst}
 use mathlib.Core.Bool.{Bool, true, false, not, ◌&&◌, ◌||◌}
 use mathlib.Core.Logic.{◌⊎◌, inl, inr, ⊎_elim}
 use lib.IntN.{ℤ, pos}
 use lib.Signed.{◌≤ℤ◌, ◌<ℤ◌, le_z, lt_z}
-use Rattle.numbers.specs.Is.{Is}
 use Rattle.numbers.specs.Says.{Says}
 use Rattle.numbers.proofs.Says.{says_yes, says_no, says_iff, says_and, says_not}
 use Rattle.numbers.proofs.Deciding.{says_leℤ, says_ltℤ}
@@ -16,11 +14,14 @@ use Rattle.shape.specs.declared.Shape.{Shape}
 use Rattle.touch.specs.declared.Bounds.{Bounds}
 use Rattle.touch.specs.declared.Corners.{Corners}
 use Rattle.touch.specs.declared.Ends.{Ends}
+use Rattle.touch.specs.declared.RowEdges.{RowEdges}
 use Rattle.touch.specs.Touches.{Touches}
 use Rattle.touch.specs.Corner.{three, bounds, Overlap, edge_value, Apart, Separates}
 use Rattle.touch.specs.Corner.Apart.{above, below}
+use Rattle.touch.specs.Edges.{Clear}
 use Rattle.touch.specs.Cover.{Wholly}
-use Rattle.touch.specs.Inner.{OnSide, AllOnSide, corners_of, Keeps, Outer, Inner}
+use Rattle.touch.specs.Inner.{OnSide, AllOnSide, corners_of, Keeps, corners_at, EnclosedAt, CoverAt, Outer, Inner}
+use Rattle.touch.specs.Look.{whole_or_part}
 use Rattle.touch.specs.Inner.OnSide.{over, under}
 use Rattle.touch.proofs.Theorem.{corner_is_touching}
 use Rattle.touch.proofs.Covering.{enclosed_is_wholly}
@@ -28,14 +29,6 @@ use Rattle.touch.proofs.Extremes.{over_side, under_side}
 
 pub says_same : {P : Type 0} {r s : Bool} → r ≡ s → Says s P → Says r P
 says_same {P} e h = subst (λ (t : Bool). Says t P) (sym e) h
-
--- a test of two numbers as the machine reads them is the test of the two
-pub same_test : {v z u y : ℤ} {M N : ℕ} → Is v z M → Is u y N → {t : Bool} → le_z v u ≡ t → le_z z y ≡ t
-same_test p q e = (λ i. le_z (sym p.same i) (sym q.same i)) ∙ e
-
--- what is picked by such a test is what the test of the two picks
-pub picks : (pick : Bool → ℤ) {v z u y : ℤ} {M N : ℕ} → Is v z M → Is u y N → {t : Bool} → le_z v u ≡ t → {r : ℤ} → r ≡ pick t → r ≡ pick (le_z z y)
-picks pick p q e same = same ∙ sym (ap pick (same_test p q e))
 
 -- one of two answers says whether either holds
 pub says_or : {P Q : Type 0} {r s : Bool} → Says r P → Says s Q → Says (r || s) (P ⊎ Q)
@@ -216,3 +209,18 @@ enclosed_says_wholly shape q area =
     let e = enclosed_is_wholly shape area in
     says_iff (λ h. e.0 (record { ab = h.0; bc = h.1.0; ca = h.1.1 })) (λ w. let h = e.1 w in (h.ab, (h.bc, h.ca)))
     (says_and (keeps_says a b c q) (says_and (keeps_says b c a q) (keeps_says c a b q)))
+
+-- ---- the edges in a row
+
+-- all three have the corners on their inner side
+pub enclosed_at : (e : RowEdges) (left right : ℤ) {r s t : Bool} → Says r (AllOnSide e.ab.third (corners_at e.ab left right))
+    → Says s (AllOnSide e.bc.third (corners_at e.bc left right)) → Says t (AllOnSide e.ca.third (corners_at e.ca left right))
+    → Says ((r && s) && t) (EnclosedAt e left right)
+enclosed_at e left right ab bc ca =
+    says_iff (λ h. record { ab = h.0.0; bc = h.0.1; ca = h.1 }) (λ h. ((h.ab, h.bc), h.ca)) (says_and (says_and ab bc) ca)
+
+-- where no edge separates, it is wholly or partly as all edges enclose or not
+pub says_whole_or_part : {e : RowEdges} {left right : ℤ} {w : Bool} → Says w (EnclosedAt e left right) → Clear e left right
+    → CoverAt (whole_or_part w) e left right
+says_whole_or_part {w = true} s k = s.yes refl
+says_whole_or_part {w = false} s k = (k, s.no refl)

@@ -260,12 +260,6 @@ cover_at_says shape ok area box answer.TheVariants.Partly (h, n) = (
 )
 cover_at_says shape ok area box answer.TheVariants.Wholly h = (enclosed_is_wholly shape area).0 (record { ab = h.ab; bc = h.bc; ca = h.ca })
 
-pub outline_cover_at_says : {e : Edges} {q : Rectangle} → Outline e → Proper q → HasArea q → Box (triangle (starts e)) q → (r : answer.Cover)
-    → CoverAt r (row_edges e q.top q.bottom) q.left q.right → CoverSays r (triangle (starts e)) q
-outline_cover_at_says {e} {q} o ok area box r h =
-    cover_at_says (triangle (starts e)) ok area box r
-    (subst (λ (d : Edges). CoverAt r (row_edges d q.top q.bottom) q.left q.right) o.is h)
-
 -- so does what is computed of them alone, wherever the box is
 pub outline_enclosed_is_wholly : {e : Edges} {q : Rectangle} → Outline e → HasArea q
     → EnclosedAt (row_edges e q.top q.bottom) q.left q.right ↔ Wholly (triangle (starts e)) q

@@ -12,7 +12,7 @@ use Rattle.screen.specs.declared.Screen.{Screen}
 use Rattle.screen.specs.Screen.{Allowed, columns, rows, tiles, tile_at}
 use Rattle.screen.specs.Rectangle.{near, far, rectangle_at, rectangle, glass, Inside}
 use Rattle.screen.proofs.Laws.{near_rises, far_rises, near_first, far_last, rectangle_on_the_glass, columns≥, rows≥, column<, row<, column_is, row_is, tile<}
-use Rattle.screen.proofs.Axis.{LiesIn, between_tiles}
+use Rattle.screen.proofs.Along.{LiesIn, between_tiles}
 use Rattle.shape.specs.declared.Shape.{Shape}
 use Rattle.shape.specs.Shape.{vertices}
 use Rattle.touch.specs.Touches.{total, weighted, Touches, PointIn}

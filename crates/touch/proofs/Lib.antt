@@ -11,6 +11,7 @@ pub mod Glass
 pub mod Answers
 pub mod Marked
 pub mod Sizes
+pub mod Picked
 pub mod Points
 pub mod Sides
 pub mod Covering

@@ -1,14 +1,13 @@
 -- How large the numbers of an edge are, from the range of the vertices and of the sides.
-use Prim.Native.Nat.{ℕ, ◌≤◌, ◌<◌, ◌^◌}
-use mathlib.Core.Path.{refl, sym, subst}
+use Prim.Native.Nat.{ℕ, ◌≤◌}
+use mathlib.Core.Path.{◌≡◌, refl, sym, subst}
 use mathlib.Core.Bool.{Bool, true, false, cond}
 use lib.IntN.{ℤ, pos, nat_abs, ◌-ℤ◌, ◌*ℤ◌}
-use lib.Signed.{◌≤ℤ◌, le_z, mag}
-use mir.Syntax.{Width, w32, w64}
-use mir.Val.{hbits}
+use lib.Signed.{◌≤ℤ◌, le_z}
+use mir.Syntax.{w32, w64}
 use Rattle.numbers.specs.Is.{Is, kept}
 use Rattle.numbers.proofs.Diff.{≤ℤ_trans}
-use Rattle.numbers.proofs.Is.{is_range, is_sub, is_mul, is_kept, is_call}
+use Rattle.numbers.proofs.Is.{is_range, is_sub, is_mul, is_kept}
 use Rattle.screen.specs.declared.Rectangle.{Rectangle}
 use Rattle.screen.specs.Rectangle.{Proper}
 use Rattle.shape.specs.declared.Vertex.{Vertex}
@@ -26,10 +25,6 @@ is_within h = record { same = refl; size = h.abs }
 
 within : {z : ℤ} {size : ℕ} → Is z z size → Within size z
 within p = record { abs = p.size }
-
--- a field of a struct, as the machine reads it
-pub is_field : (w : Width) (z : ℤ) → mag z < 2 ^ hbits w → Is (kept w z) z (2 ^ hbits w)
-is_field w z h = is_call w {r = z} h refl
 
 -- ---- the vertices of a shape that is in range, and the sides of a rectangle
 
@@ -60,6 +55,13 @@ module _ {q : Rectangle} (ok : Proper q) where
 
   pub bottom_within : Within 524288 q.bottom
   bottom_within = side_within (≤ℤ_trans ok.top≥ ok.high) ok.bottom≤
+
+-- a side is read as it is
+pub side_read : {z : ℤ} → Within 524288 z → kept w64 z ≡ z
+side_read h = (is_kept w64 tt (is_within h)).same
+
+pub read_within : {z : ℤ} → Within 524288 z → Within 524288 (kept w64 z)
+read_within h = subst (Within 524288) (sym (side_read h)) h
 
 -- the greatest coordinates are coordinates of vertices
 picked : (t : Bool) {x y : ℤ} → InUnits x → InUnits y → InUnits (cond t x y)

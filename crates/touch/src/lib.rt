@@ -5,10 +5,10 @@ ghost use Rattle.std.specs.Prelude.{◌≡◌, true};
 ghost use Rattle.numbers.specs.Says.{Says};
 ghost use Rattle.screen.specs.Rectangle.{Proper, HasArea};
 ghost use Rattle.shape.specs.Shape.{InRange, Placed};
-ghost use Rattle.touch.specs.Corner.{three, triangle, lesser, greater, bounds, Overlap, Box};
-ghost use Rattle.touch.specs.Edges.{AllPlaced, edge_of, edges_of, starts, Outline, row_edge, row_edges, Within, EdgeRange, EdgesRange, RowEdgeRange, RowEdgesRange};
+ghost use Rattle.touch.specs.Corner.{three, triangle, bounds, Overlap, Box};
+ghost use Rattle.touch.specs.Edges.{AllPlaced, edge_of, edges_of, starts, Outline, row_edge, row_edges, Within, EdgeRange, RowEdgeRange, RowEdgesRange};
 ghost use Rattle.touch.specs.Cover.{CoverSays, BoxCoverSays, is_touched, is_whole};
-ghost use Rattle.touch.specs.Look.{OnSideOf, SideSays, InwardOf, whole_or_part};
+ghost use Rattle.touch.specs.Look.{OnSideOf, SideSays, InwardOf, InwardSays, whole_or_part};
 ghost use Rattle.touch.specs.Inner.{AllApart, AllOnSide, corners_at, ends_at, Outer, Inner, CoverAt};
 
 use screen::Rectangle;
@@ -41,7 +41,8 @@ pub struct Edge {
     pub third: i64,
 }
 
-// The three edges of a shape.
+// The three edges of a shape. It is a type of its own beside `RowEdges` and `Inward`: definitions of four crates name each, and have no short name for an
+// instance of a generic one.
 #[derive(Clone, Copy)]
 pub struct Edges {
     pub ab: Edge,
@@ -67,6 +68,22 @@ pub struct RowEdges {
     pub ca: RowEdge,
 }
 
+// Edges and bounding box of three vertices in range: what is computed of a shape once.
+#[derive(Clone, Copy)]
+pub struct Figure {
+    pub edges: Edges,
+    pub around: Bounds,
+    pub ghost outline: { Outline edges },
+    pub ghost boxed: { around ≡ bounds (starts edges) },
+}
+
+// The edges of a shape in a row.
+#[derive(Clone, Copy)]
+pub struct Row {
+    pub edges: RowEdges,
+    pub ghost sized: { RowEdgesRange edges },
+}
+
 // The least and the greatest of the edge values at the four corners of a rectangle.
 #[derive(Clone, Copy)]
 pub struct Ends {
@@ -81,13 +98,6 @@ struct Corners {
     q: i64,
     r: i64,
     s: i64,
-}
-
-// On which side of an edge a rectangle lies: outer where the edge separates it from the shape, inner where it lies on the side of the third vertex.
-#[derive(Clone, Copy)]
-struct EdgeSide {
-    outer: bool,
-    inner: bool,
 }
 
 // Which edges of a shape have a rectangle on their inner side.
@@ -118,38 +128,22 @@ pub fn three_of(shape: Shape) -> Three
     ensures { result ≡ three shape }
 {
     match shape {
-        Shape::Point(a) => Three { a: a, b: a, c: a },
-        Shape::Line(a, b) => Three { a: a, b: b, c: b },
-        Shape::Triangle(a, b, c) => Three { a: a, b: b, c: c },
+        Shape::Point(a) => Three { a, b: a, c: a },
+        Shape::Line(a, b) => Three { a, b, c: b },
+        Shape::Triangle(a, b, c) => Three { a, b, c },
     }
-}
-
-// The lesser of two coordinates.
-fn least(x: i32, y: i32) -> i32
-    ensures { result ≡ lesser x y }
-{
-    if x <= y { x } else { y }
-}
-
-// The greater of two coordinates.
-fn most(x: i32, y: i32) -> i32
-    ensures { result ≡ greater x y }
-{
-    if x <= y { y } else { x }
 }
 
 // The bounding box of three vertices.
 pub fn bounds_of(vertices: Three) -> Bounds
     ensures { result ≡ bounds vertices }
 {
-    let a = vertices.a;
-    let b = vertices.b;
-    let c = vertices.c;
+    let Three { a, b, c } = vertices;
     Bounds {
-        left: least(a.x, least(b.x, c.x)),
-        right: most(a.x, most(b.x, c.x)),
-        top: least(a.y, least(b.y, c.y)),
-        bottom: most(a.y, most(b.y, c.y)),
+        left: a.x.min(b.x.min(c.x)),
+        right: a.x.max(b.x.max(c.x)),
+        top: a.y.min(b.y.min(c.y)),
+        bottom: a.y.max(b.y.max(c.y)),
     }
 }
 
@@ -179,7 +173,7 @@ pub fn box_cover(shape: Shape, rectangle: Rectangle) -> Cover
     }
 }
 
-// The edge from a to b, with the edge value of c.
+// The edge from a to b, with the edge value of c. Its range is asked by a clause, since definitions make an edge of any vertices.
 fn edge_of(a: Vertex, b: Vertex, c: Vertex) -> Edge
     requires { (Placed a) × (Placed b) × (Placed c) }
     ensures { result ≡ edge_of a b c }
@@ -199,13 +193,11 @@ fn edge_of(a: Vertex, b: Vertex, c: Vertex) -> Edge
 }
 
 // The three edges, each with the edge value of the vertex that it lacks.
-pub fn edges_of(vertices: Three) -> Edges
+fn edges_of(vertices: Three) -> Edges
     requires { AllPlaced vertices }
     ensures { result ≡ edges_of vertices }
 {
-    let a = vertices.a;
-    let b = vertices.b;
-    let c = vertices.c;
+    let Three { a, b, c } = vertices;
     Edges {
         ab: edge_of(a, b, c),
         bc: edge_of(b, c, a),
@@ -213,7 +205,7 @@ pub fn edges_of(vertices: Three) -> Edges
     }
 }
 
-// An edge, in the row from top to bottom.
+// An edge, in the row from top to bottom. The sides stay plain numbers, since the definitions subtract them.
 fn row_edge(edge: Edge, top: i64, bottom: i64) -> RowEdge
     requires { (EdgeRange edge) × (Within 524288 top) × (Within 524288 bottom) }
     ensures { result ≡ row_edge edge top bottom }
@@ -227,38 +219,15 @@ fn row_edge(edge: Edge, top: i64, bottom: i64) -> RowEdge
     }
 }
 
-// The three edges, in the row from top to bottom.
-pub fn row_edges(edges: Edges, top: i64, bottom: i64) -> RowEdges
-    requires { (EdgesRange edges) × (Within 524288 top) × (Within 524288 bottom) }
-    ensures { result ≡ row_edges edges top bottom }
+// The edges and the bounding box of three vertices.
+pub fn figure_of(vertices: Three) -> Figure
+    requires { AllPlaced vertices }
+    ensures { result.edges ≡ edges_of vertices }
 {
-    RowEdges {
-        ab: row_edge(edges.ab, top, bottom),
-        bc: row_edge(edges.bc, top, bottom),
-        ca: row_edge(edges.ca, top, bottom),
+    Figure {
+        edges: edges_of(vertices),
+        around: bounds_of(vertices),
     }
-}
-
-// The three edges of the shape, in the row of the rectangle.
-fn edges_in(shape: Shape, rectangle: Rectangle) -> RowEdges
-    requires { (InRange shape) × (Proper rectangle) }
-    ensures { result ≡ row_edges (edges_of (three shape)) rectangle.top rectangle.bottom }
-{
-    row_edges(edges_of(three_of(shape)), rectangle.top, rectangle.bottom)
-}
-
-// The lesser of two edge values.
-fn lesser(x: i64, y: i64) -> i64
-    ensures { result ≡ lesser x y }
-{
-    if x <= y { x } else { y }
-}
-
-// The greater of two edge values.
-fn greater(x: i64, y: i64) -> i64
-    ensures { result ≡ greater x y }
-{
-    if x <= y { y } else { x }
 }
 
 // The least and the greatest edge value at the corners, in the row from left to right. An edge value is what its column gives less what its row gives, so that
@@ -270,8 +239,8 @@ fn ends_at(edge: RowEdge, left: i64, right: i64) -> Ends
     let near = (left - edge.x) * edge.dy;
     let far = (right - edge.x) * edge.dy;
     Ends {
-        least: lesser(near, far) - greater(edge.upper, edge.lower),
-        greatest: greater(near, far) - lesser(edge.upper, edge.lower),
+        least: near.min(far) - edge.upper.max(edge.lower),
+        greatest: near.max(far) - edge.upper.min(edge.lower),
     }
 }
 
@@ -293,30 +262,6 @@ fn inner(edge: RowEdge, ends: Ends) -> bool
     let over = (0 < third) & (0 <= ends.least);
     let under = (third < 0) & (ends.greatest <= 0);
     over | under
-}
-
-// How the shape covers what lies in the row from left to right, where that meets its bounding box: by the least and the greatest value of each edge.
-pub fn cover_at(edges: RowEdges, left: i64, right: i64) -> Cover
-    requires { (RowEdgesRange edges) × (Within 524288 left) × (Within 524288 right) }
-    ensures { CoverAt result edges left right }
-{
-    let ab = ends_at(edges.ab, left, right);
-    if outer(edges.ab, ab) {
-        return Cover::Apart;
-    }
-    let bc = ends_at(edges.bc, left, right);
-    if outer(edges.bc, bc) {
-        return Cover::Apart;
-    }
-    let ca = ends_at(edges.ca, left, right);
-    if outer(edges.ca, ca) {
-        return Cover::Apart;
-    }
-    if (inner(edges.ab, ab) & inner(edges.bc, bc)) & inner(edges.ca, ca) {
-        Cover::Wholly
-    } else {
-        Cover::Partly
-    }
 }
 
 // The edge values at the four corners of what lies in the row from left to right.
@@ -354,32 +299,15 @@ fn keeps(edge: RowEdge, at: Corners) -> bool
     none_below | none_above
 }
 
-// The same as `cover_at`, by the signs at the four corners.
-fn cover_by_corners(edges: RowEdges, left: i64, right: i64) -> Cover
-    requires { (RowEdgesRange edges) × (Within 524288 left) × (Within 524288 right) }
-    ensures { CoverAt result edges left right }
-{
-    let ab = corners_at(edges.ab, left, right);
-    let bc = corners_at(edges.bc, left, right);
-    let ca = corners_at(edges.ca, left, right);
-    if (separates(edges.ab, ab) | separates(edges.bc, bc)) | separates(edges.ca, ca) {
-        return Cover::Apart;
-    }
-    if (keeps(edges.ab, ab) & keeps(edges.bc, bc)) & keeps(edges.ca, ca) {
-        Cover::Wholly
-    } else {
-        Cover::Partly
-    }
-}
-
 // How the shape covers the rectangle, by the signs at its four corners.
 pub fn corner_cover(shape: Shape, rectangle: Rectangle) -> Cover
     requires { (InRange shape) × (Proper rectangle) × (HasArea rectangle) }
     ensures { CoverSays result shape rectangle }
 {
-    if box_touches(shape, rectangle) {
-        let edges = edges_in(shape, rectangle);
-        cover_by_corners(edges, rectangle.left, rectangle.right)
+    let figure = figure_of(three_of(shape));
+    if overlap(figure.around, rectangle) {
+        let row = figure.in_row(rectangle.top, rectangle.bottom);
+        row.cover_by_corners(rectangle.left, rectangle.right)
     } else {
         Cover::Apart
     }
@@ -392,89 +320,130 @@ fn whole_or_part(whole: bool) -> Cover
     if whole { Cover::Wholly } else { Cover::Partly }
 }
 
-// On which side of the edge the rectangle lies; where that is known to be the inner one, nothing is computed.
-fn side_at(edge: Edge, rectangle: Rectangle, known: bool) -> EdgeSide
+// Whether the rectangle lies on the inner side of the edge; nothing where the edge separates it from the shape. Where it is known to, nothing is computed.
+fn inner_at(edge: Edge, rectangle: Rectangle, known: bool) -> Option<bool>
     requires { (EdgeRange edge) × (Proper rectangle) × (known ≡ true → OnSideOf edge rectangle) }
     ensures { SideSays result edge rectangle }
 {
     if known {
-        return EdgeSide {
-            outer: false,
-            inner: true,
-        };
+        return Some(true);
     }
     let row = row_edge(edge, rectangle.top, rectangle.bottom);
     let ends = ends_at(row, rectangle.left, rectangle.right);
-    EdgeSide {
-        outer: outer(row, ends),
-        inner: inner(row, ends),
+    if outer(row, ends) {
+        return None;
+    }
+    Some(inner(row, ends))
+}
+
+impl Figure {
+    // The edges in the row from top to bottom.
+    pub fn in_row(self, top: i64, bottom: i64) -> Row
+        requires { (Within 524288 top) × (Within 524288 bottom) }
+        ensures { result.edges ≡ row_edges self.edges top bottom }
+    {
+        let Edges { ab, bc, ca } = self.edges;
+        Row {
+            edges: RowEdges {
+                ab: row_edge(ab, top, bottom),
+                bc: row_edge(bc, top, bottom),
+                ca: row_edge(ca, top, bottom),
+            },
+        }
+    }
+
+    // Which edges have the rectangle on their inner side; nothing where the shape does not touch it.
+    fn inward_at(self, known: Inward, rectangle: Rectangle) -> Option<Inward>
+        requires proper { Proper rectangle }
+        requires inward_of { InwardOf known self.edges rectangle }
+        ensures { InwardSays result self.edges rectangle }
+    {
+        if !overlap(self.around, rectangle) {
+            return None;
+        }
+        let ab = inner_at(self.edges.ab, rectangle, known.ab)?;
+        let bc = inner_at(self.edges.bc, rectangle, known.bc)?;
+        let ca = inner_at(self.edges.ca, rectangle, known.ca)?;
+        Some(Inward { ab, bc, ca })
+    }
+
+    // How the shape covers the rectangle; edges that are known to have it on their inner side are not looked at.
+    pub fn look(self, known: Inward, rectangle: Rectangle) -> Looked
+        requires area { (Proper rectangle) × (HasArea rectangle) }
+        requires inward_of { InwardOf known self.edges rectangle }
+        ensures cover { CoverSays result.cover (triangle (starts self.edges)) rectangle }
+        ensures inward { InwardOf result.inward self.edges rectangle }
+    {
+        let Some(inward) = self.inward_at(known, rectangle) else {
+            return Looked {
+                cover: Cover::Apart,
+                inward: known,
+            };
+        };
+        let Inward { ab, bc, ca } = inward;
+        Looked {
+            cover: whole_or_part(ab & bc & ca),
+            inward,
+        }
     }
 }
 
-// How the shape of the edges, whose bounding box is around, covers the rectangle; edges that are known to have it on their inner side are not looked at.
-pub fn look(around: Bounds, edges: Edges, known: Inward, rectangle: Rectangle) -> Looked
-    requires outline { (Outline edges) × (around ≡ bounds (starts edges)) × (Proper rectangle) × (HasArea rectangle) }
-    requires inward_of { InwardOf known edges rectangle }
-    ensures cover { CoverSays result.cover (triangle (starts edges)) rectangle }
-    ensures inward { InwardOf result.inward edges rectangle }
-{
-    let cover = Cover::Apart;
-    if !overlap(around, rectangle) {
-        return Looked {
-            cover,
-            inward: known,
-        };
+impl Row {
+    // How the shape covers what lies in the row from left to right, where that meets its bounding box: by the least and the greatest value of each edge.
+    pub fn cover(self, left: i64, right: i64) -> Cover
+        requires { (Within 524288 left) × (Within 524288 right) }
+        ensures { CoverAt result self.edges left right }
+    {
+        let RowEdges { ab, bc, ca } = self.edges;
+        let ab_ends = ends_at(ab, left, right);
+        if outer(ab, ab_ends) {
+            return Cover::Apart;
+        }
+        let bc_ends = ends_at(bc, left, right);
+        if outer(bc, bc_ends) {
+            return Cover::Apart;
+        }
+        let ca_ends = ends_at(ca, left, right);
+        if outer(ca, ca_ends) {
+            return Cover::Apart;
+        }
+        whole_or_part(inner(ab, ab_ends) & inner(bc, bc_ends) & inner(ca, ca_ends))
     }
-    let ab = side_at(edges.ab, rectangle, known.ab);
-    if ab.outer {
-        return Looked {
-            cover,
-            inward: known,
-        };
-    }
-    let bc = side_at(edges.bc, rectangle, known.bc);
-    if bc.outer {
-        return Looked {
-            cover,
-            inward: known,
-        };
-    }
-    let ca = side_at(edges.ca, rectangle, known.ca);
-    if ca.outer {
-        return Looked {
-            cover,
-            inward: known,
-        };
-    }
-    let inward = Inward {
-        ab: ab.inner,
-        bc: bc.inner,
-        ca: ca.inner,
-    };
-    Looked {
-        cover: whole_or_part((ab.inner & bc.inner) & ca.inner),
-        inward,
+
+    // The same, by the signs at the four corners.
+    fn cover_by_corners(self, left: i64, right: i64) -> Cover
+        requires { (Within 524288 left) × (Within 524288 right) }
+        ensures { CoverAt result self.edges left right }
+    {
+        let RowEdges { ab, bc, ca } = self.edges;
+        let ab_corners = corners_at(ab, left, right);
+        let bc_corners = corners_at(bc, left, right);
+        let ca_corners = corners_at(ca, left, right);
+        if separates(ab, ab_corners) | separates(bc, bc_corners) | separates(ca, ca_corners) {
+            return Cover::Apart;
+        }
+        whole_or_part(keeps(ab, ab_corners) & keeps(bc, bc_corners) & keeps(ca, ca_corners))
     }
 }
 
-// Whether an answer is not apart.
-pub fn is_touched(cover: Cover) -> bool
-    ensures { result ≡ is_touched cover }
-{
-    match cover {
-        Cover::Apart => false,
-        Cover::Partly => true,
-        Cover::Wholly => true,
+impl Cover {
+    // Whether an answer is not apart.
+    pub fn is_touched(self) -> bool
+        ensures { result ≡ is_touched self }
+    {
+        match self {
+            Cover::Apart => false,
+            Cover::Partly | Cover::Wholly => true,
+        }
     }
-}
 
-// Whether an answer is wholly.
-pub fn is_whole(cover: Cover) -> bool
-    ensures { result ≡ is_whole cover }
-{
-    match cover {
-        Cover::Apart => false,
-        Cover::Partly => false,
-        Cover::Wholly => true,
+    // Whether an answer is wholly.
+    pub fn is_whole(self) -> bool
+        ensures { result ≡ is_whole self }
+    {
+        match self {
+            Cover::Apart | Cover::Partly => false,
+            Cover::Wholly => true,
+        }
     }
 }

@@ -9,15 +9,22 @@ use lib.ListN.{length, get_or, take}
 use lib.Seq.{length-take-le, get_or-take, ext_get_or}
 use Rattle.numbers.specs.Flag.{plains}
 use Rattle.numbers.proofs.Flag.{length-plains, take-plains}
+use Rattle.numbers.proofs.Says.{says_iff}
 use Rattle.screen.specs.declared.Screen.{Screen}
 use Rattle.screen.specs.Screen.{tiles}
 use Rattle.screen.specs.Rectangle.{rectangle}
 use Rattle.shape.specs.declared.Shape.{Shape}
+use Rattle.touch.specs.declared.Edges.{Edges}
+use Rattle.touch.specs.Corner.{three}
+use Rattle.touch.specs.Edges.{edges_of}
 use Rattle.touch.specs.Touches.{Touches}
+use Rattle.touch.proofs.Weights.{touches_as_triangle}
+use Rattle.touch.proofs.Covering.{wholly_as_triangle}
 use Rattle.walk.specs.Touched.{TouchedTiles, Walked}
 use Rattle.walk.specs.Lists.{IsTouched, Flagged, Place, Lists, Words}
 use Rattle.numbers.proofs.Ceil.{lt_or_ge}
-use Rattle.walk.proofs.Lists.{lists_few, lists_as_long, lists_same}
+use Rattle.walk.specs.Row.{outlined}
+use Rattle.walk.proofs.Lists.{lists_iff, lists_few, lists_as_long, lists_same, words_map}
 
 -- ---- a list as the front of itself
 
@@ -110,3 +117,15 @@ module _ {d : Screen} {shape : Shape} {n : ℕ} where
     size = k.size;
     rest = k.over;
   }
+
+-- by the edges of the shape's vertices
+pub rows_walked : {d : Screen} {n : ℕ} {old new : List ℕ} {e : Edges} (shape : Shape) → e ≡ edges_of (three shape) → tiles d ≤ length old
+    → Lists (IsTouched d (outlined e)) n (plains old) (plains new) → Words (Flagged d (outlined e)) 0 n old new → Walked d shape n old new
+rows_walked {d} {n} {old} {new} shape edges room numbers words =
+    lists_walked room
+    (lists_iff (IsTouched d (outlined (edges_of (three shape)))) (IsTouched d shape)
+    (λ t p. (p.0, (touches_as_triangle shape).1 p.1))
+    (λ t p. (p.0, (touches_as_triangle shape).0 p.1))
+    (subst (λ (e : Edges). Lists (IsTouched d (outlined e)) n (plains old) (plains new)) edges numbers))
+    (words_map (Flagged d shape) (λ w h. says_iff (wholly_as_triangle shape).1 (wholly_as_triangle shape).0 h)
+    (subst (λ (e : Edges). Words (Flagged d (outlined e)) 0 n old new) edges words))

@@ -1,26 +1,29 @@
 -- `audit::edition_of` tells the layouts apart by words 6 and 8; where there is no word 8, it reads as 0.
-use mathlib.Core.Path.{◌≡◌, sym}
+use mathlib.Core.Path.{◌≡◌, sym, ap, ◌∙◌}
 use native.Mathlib.Omega.{arith}
-use lib.ListN.{get_or, get_or-eq_default}
-use Rattle.pool.specs.Words.{header_word}
+use Prim.Native.Nat.{ℕ}
+use borrow.Author.Rules.{rules}
+use lib.ListN.{get_or}
+use Rattle.pool.specs.Words.{Layout, edition, header_word}
 use Rattle.pool.proofs.Editions.{layout_one, layout_two_32, layout_two_64}
 use Rattle.audit.proofs.edition_of.Goals as goal
+use Rattle.audit.proofs.edition_of.Goals.{After-unwrap_or-size, in-10-eq64, in-10-default, in_default}
 
-pub returns-then-pool-ne10 : goal.returns-then-pool-ne10
-unfolding header_word
-returns-then-pool-ne10 c = sym (layout_one c.args.pool.now c.if-pool-ne10.true)
+-- the layout of a header and the ids in a block
+abbrev laid : ℕ × (ℕ × Unit {0}) → Layout
+laid r = record { header = r.0; tile = edition.tile; ids = r.1.0; limit = edition.limit; poison = edition.poison }
 
-pub returns-then-pool-lt9 : goal.returns-then-pool-lt9
-unfolding header_word
-returns-then-pool-lt9 c =
-    let p = c.args.pool.now in
-    let z : get_or p 8 0 ≡ 0 = get_or-eq_default p 0 (omega (arith, c.if-pool-lt9.true)) in
-    sym (layout_two_32 p c.if-pool-ne10.false (omega arith))
-
-pub returns-then-pool-ne64 : goal.returns-then-pool-ne64
-unfolding header_word
-returns-then-pool-ne64 c = sym (layout_two_32 c.args.pool.now c.if-pool-ne10.false c.if-pool-ne64.true)
+-- word 8, and 0 where there is none
+size-is : (c : After-unwrap_or-size) → c.unwrap_or-size.result ≡ get_or c.args.pool.now 8 0
+size-is c = search rules
 
 pub returns : goal.returns
 unfolding header_word
-returns c = sym (layout_two_64 c.args.pool.now c.if-pool-ne10.false c.if-pool-ne64.false)
+returns c =
+    let p = c.args.pool.now in
+    let size = size-is (goal.at.returns c).After-unwrap_or-size in
+    elim c.match-pool.branch [
+      | in-10-eq64 w ↦ ap laid w.result-is ∙ sym (layout_two_64 p w.in-10-eq64.is-0 (omega (arith, size, w.in-10-eq64.is-1)))
+      | in-10-default w ↦ ap laid w.result-is ∙ sym (layout_two_32 p w.in-10-default.is-0 (λ e. w.in-10-default.is-1.1 (omega (arith, size, e))))
+      | in_default w ↦ ap laid w.result-is ∙ sym (layout_one p w.in_default.is-0.1)
+    ]

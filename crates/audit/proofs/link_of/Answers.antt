@@ -2,4 +2,4 @@
 use Rattle.audit.proofs.link_of.Goals as goal
 
 pub returns : goal.returns
-returns c = rw c.block_at-at.ensures
+returns c = rw c.block_at.ensures

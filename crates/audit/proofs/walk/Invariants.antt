@@ -7,7 +7,7 @@ use Rattle.audit.proofs.walk.Given as goal
 
 abbrev pub invariant-loop-left : goal.invariant-loop-left
 invariant-loop-left l =
-    Going (next (layout_for l.layout) (block_word_from (layout_for l.layout) l.pool l.from)) l.blocks (λ b. Places (layout_for l.layout) (block_word_from (layout_for l.layout) l.pool l.from b)) l.layout.ids
+    Going (next (layout_for l.header.layout) (block_word_from (layout_for l.header.layout) l.pool l.header.start)) l.header.blocks (λ b. Places (layout_for l.header.layout) (block_word_from (layout_for l.header.layout) l.pool l.header.start b)) l.header.layout.ids
     l.initial.marks l.initial.link l.initial.q l.initial.left l.marks l.link l.q l.left l.last
 
 abbrev pub decreases-loop-left : goal.decreases-loop-left

@@ -1,14 +1,7 @@
--- `calls::box_cover` meets its contract: a refusal is handed on, and the answer is that of the test.
-use mathlib.Core.Path.{refl, ap, ◌∙◌}
-use Rattle.calls.specs.Questions.{not_asked, refused, done}
+-- `calls::box_cover` meets its contract: the answer is that of the test.
+use borrow.Author.Rules.{rules}
+use Rattle.calls.proofs.Asking.{answered_as}
 use Rattle.calls.proofs.box_cover.Goals as goal
 
-pub returns-in_default : goal.returns-in_default
-returns-in_default c =
-    let told = c.in_default.is in
-    refused _ (rw told at c.ask-asked.ensures) (c.not_asked.ensures ∙ ap not_asked told)
-
 pub returns : goal.returns
-returns c =
-    let told = rw c.in-Asked.is at c.ask-asked.ensures in
-    done told.0 _ (rw told.1 at c.box_cover.ensures) refl
+returns c = answered_as (λ r p. search rules) c.answer.ensures

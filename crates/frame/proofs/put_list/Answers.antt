@@ -8,7 +8,7 @@ use lib.Seq.{take_all}
 use Rattle.pool.specs.Editions.{layout_for}
 use Rattle.pool.specs.Written.{written}
 use Rattle.pool.proofs.Putting.{puts_long}
-use Rattle.frame.proofs.Copying.{Copying, copy_start, copy_block, copy_part, copy_step, copy_end}
+use Rattle.frame.proofs.Copying.{Copying, copy_start, copy_block, copy_part, copy_step}
 use Rattle.frame.proofs.put_list.Goals as goal
 use Rattle.frame.proofs.put_list.Goals.{After-stretch_at-stretch, At-loop-next}
 
@@ -18,7 +18,7 @@ ends at w e = ap (λ (n : ℕ). at + n) (w ∙ e)
 
 -- that much of the tile's list
 copying : (l : At-loop-next) → let a = l.args in
-    Copying (layout_for a.layout) a.tiles a.pool.now a.tile.0 a.list.now a.at l.loop-next.list l.loop-next.link l.loop-next.next
+    Copying (layout_for a.lists.layout) a.lists.tiles a.pool.now a.tile.0 a.list.now a.at l.loop-next.list l.loop-next.link l.loop-next.next
 copying l =
     l.loop-next.invariant l.args.tile.0 l.requires.among l.first-link.ensures (ends l.args.at l.wide.ensures l.entries.ensures.list)
 
@@ -31,9 +31,6 @@ next-part c =
     let e = ends a.at c.wide.ensures c.entries.ensures.list in
     let so_far = c.loop-next.invariant a.tile.0 c.requires.among c.first-link.ensures e in
     copy_part c.requires.among so_far (omega (arith, e, c.loop-next-test.true)) (ap (λ (n : ℕ). n - c.loop-next.next) e) c.stretch_at-stretch.ensures
-
-pub overflow_add-end : goal.overflow_add-end
-overflow_add-end c = omega (arith, ends c.args.at c.wide.ensures c.entries.ensures.list, c.requires.tile_in_bounds)
 
 pub loop-next-init : goal.loop-next-init
 loop-next-init c = λ t G e h. rw e (copy_start G)
@@ -56,13 +53,6 @@ copy_stretch-requires c =
     let n = next-part (goal.at.copy_stretch-requires c).After-stretch_at-stretch in
     (omega (arith, n.0), omega (arith, n.2, ends c.args.at c.wide.ensures c.entries.ensures.list, puts_long (copying (goal.at.copy_stretch-requires c).At-loop-next).put, c.requires.tile_in_bounds))
 
-pub overflow_add-next : goal.overflow_add-next
-overflow_add-next c =
-    omega (arith, next-part (goal.at.overflow_add-next c).After-stretch_at-stretch, c.loop-next-test.true, ends c.args.at c.wide.ensures c.entries.ensures.list, c.requires.tile_in_bounds)
-
-pub loop-next-smaller : goal.loop-next-smaller
-loop-next-smaller c = omega (arith, next-part (goal.at.loop-next-smaller c).After-stretch_at-stretch)
-
 pub loop-next-preserved : goal.loop-next-preserved
 loop-next-preserved c =
     let r = c.stretch_at-stretch.result in
@@ -71,10 +61,3 @@ loop-next-preserved c =
     let put = c.copy_stretch.ensures ∙ ap (λ (w : List ℕ). written c.loop-next.list c.loop-next.next (take r.count w)) rest in
     λ t G e h. copy_step G (c.loop-next.invariant t G e h) (omega (arith, h, c.loop-next-test.true))
     (ap (λ (n : ℕ). n - c.loop-next.next) h) c.stretch_at-stretch.ensures put
-
-pub shape_of-list : goal.shape_of-list
-shape_of-list c = puts_long (copying (goal.at.shape_of-list c).At-loop-next).put
-
-pub returns : goal.returns
-returns c =
-    copy_end c.requires.among (copying (goal.at.returns c).At-loop-next) (omega (arith, ends c.args.at c.wide.ensures c.entries.ensures.list, c.loop-next-test.false))

@@ -11,8 +11,8 @@ use Rattle.frame.proofs.put_list.Given as goal
 
 abbrev pub invariant-loop-next : goal.invariant-loop-next
 invariant-loop-next l =
-    let L = layout_for l.layout in
-    (t : ℕ) → Among L l.pool l.tiles t → l.initial.link ≡ tile_word L l.pool t 1 → l.end ≡ l.at + length (list_of L l.tiles l.pool t) → Copying L l.tiles l.pool t l.initial.list l.at l.list l.link l.next
+    let L = layout_for l.lists.layout in
+    (t : ℕ) → Among L l.pool l.lists.tiles t → l.initial.link ≡ tile_word L l.pool t 1 → l.end ≡ l.at + length (list_of L l.lists.tiles l.pool t) → Copying L l.lists.tiles l.pool t l.initial.list l.at l.list l.link l.next
 
 abbrev pub decreases-loop-next : goal.decreases-loop-next
 decreases-loop-next l = l.end - l.next

@@ -4,4 +4,4 @@ use native.Mathlib.Omega.{arith}
 use Rattle.frame.proofs.stretch_at.Goals as goal
 
 pub returns : goal.returns
-returns c = record { at_is = c.block_index.ensures ∙ omega arith; count_is = c.share.ensures; link_is = c.block_word.ensures }
+returns c = record { at_is = c.block_index.ensures ∙ omega arith; count_is = c.min.ensures; link_is = c.block_word.ensures }

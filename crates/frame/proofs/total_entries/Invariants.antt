@@ -1,13 +1,9 @@
 -- `total_entries`: after t tiles, the total is the length of their lists, one after the other.
 use mathlib.Core.Path.{◌≡◌}
-use Prim.Native.Nat.{◌-◌, ◌≤◌}
 use lib.ListN.{length}
 use Rattle.pool.specs.Editions.{layout_for}
 use Rattle.frame.specs.Frame.{lists_of}
 use Rattle.frame.proofs.total_entries.Given as goal
 
 abbrev pub invariant-loop-t : goal.invariant-loop-t
-invariant-loop-t l = (l.total ≡ length (lists_of (layout_for l.layout) l.tiles l.pool l.t)) × (l.t ≤ l.tiles)
-
-abbrev pub decreases-loop-t : goal.decreases-loop-t
-decreases-loop-t l = l.tiles - l.t
+invariant-loop-t l = l.total ≡ length (lists_of (layout_for l.lists.layout) l.lists.tiles l.pool l.t)

@@ -2,11 +2,13 @@
 -- definition.
 use lib.IntN.{ℤ, ◌-ℤ◌, ◌*ℤ◌}
 use mir.Syntax.{w32, w64}
+use mir.Val.{SFits}
+use Rattle.std.proofs.Common.{rules}
 use Rattle.numbers.specs.Is.{Is, kept}
-use Rattle.numbers.proofs.Is.{is_sub, is_mul, is_fits, is_kept}
+use Rattle.numbers.proofs.Is.{is_sub, is_mul, is_fits, is_kept, is_arg}
 use Rattle.shape.specs.Shape.{InUnits}
 use Rattle.touch.specs.Edges.{Within}
-use Rattle.touch.proofs.Sizes.{unit, wide, is_within, is_field}
+use Rattle.touch.proofs.Sizes.{wide, is_within}
 use Rattle.touch.proofs.Answers.{outer, outer_says, says_same}
 use Rattle.inside.proofs.beyond_edge.Goals as goal
 
@@ -18,20 +20,8 @@ part : {z y d : ℤ} → InUnits z → Within 262144 y → Within 524288 d
     → Is (kept w64 (kept w64 (kept w32 z) -ℤ kept w64 y) *ℤ kept w64 d) ((z -ℤ y) *ℤ d) 274877906944
 part p q r = is_mul (is_kept w64 tt (way p q)) (is_kept w64 tt (is_within r))
 
-pub overflow_cast-value : goal.overflow_cast-value
-overflow_cast-value c = is_fits tt (is_kept w32 tt (unit c.requires.1.x))
-
-pub overflow_sub-value : goal.overflow_sub-value
-overflow_sub-value c = let p = c.requires in is_fits tt (way p.1.x p.0.x)
-
 pub overflow_mul-value : goal.overflow_mul-value
 overflow_mul-value c = let p = c.requires in is_fits tt (part p.1.x p.0.x p.0.dy)
-
-pub overflow_cast-value-2 : goal.overflow_cast-value-2
-overflow_cast-value-2 c = is_fits tt (is_kept w32 tt (unit c.requires.1.y))
-
-pub overflow_sub-value-2 : goal.overflow_sub-value-2
-overflow_sub-value-2 c = let p = c.requires in is_fits tt (way p.1.y p.0.y)
 
 pub overflow_mul-value-2 : goal.overflow_mul-value-2
 overflow_mul-value-2 c = let p = c.requires in is_fits tt (part p.1.y p.0.y p.0.dx)
@@ -44,7 +34,7 @@ overflow_sub-value-3 c =
 pub returns : goal.returns
 returns c =
     let p = c.requires in
-    let third = is_field w64 c.args.edge.third c.struct_told-7-1.given.1.1.1.1.0.1 in
+    let third : SFits w64 c.args.edge.third = search rules in
     let value =
     is_kept w64 tt (is_sub (is_kept w64 tt (part p.1.x p.0.x p.0.dy)) (is_kept w64 tt (part p.1.y p.0.y p.0.dx))) in
-    says_same (λ i. outer (third.same i) (record { least = value.same i; greatest = value.same i })) (outer_says _ _)
+    says_same (λ i. outer ((is_arg w64 third).same i) (record { least = value.same i; greatest = value.same i })) (outer_says _ _)

@@ -1,84 +1,58 @@
--- `inside::is_inside` meets its contract: the three vertices are all that a shape has, some of them repeated, and the shape of the edges is the second.
-use mathlib.Core.Path.{◌≡◌, sym, ap, subst, ◌∙◌}
-use mathlib.Core.Bool.{Bool, true}
+-- `inside::is_inside` meets its contract: the three vertices are all that a shape has, some of them repeated, and the shape of the figure is the second.
+use mathlib.Core.Path.{◌≡◌, ap, subst, ◌∙◌}
+use mathlib.Core.Bool.{Bool}
 use mathlib.Core.Logic.{◌↔◌}
 use Rattle.numbers.specs.Says.{Says}
 use Rattle.numbers.proofs.Says.{says_no, says_iff}
 use Rattle.shape.specs.declared.Vertex.{Vertex}
 use Rattle.shape.specs.declared.Shape.{Shape}
-use Rattle.shape.specs.Shape.{InRange}
 use Rattle.touch.specs.declared.Three.{Three}
-use Rattle.touch.specs.declared.Edges.{Edges}
-use Rattle.touch.specs.Corner.{three, triangle, bounds}
-use Rattle.touch.specs.Edges.{AllPlaced, starts, Outline}
+use Rattle.touch.specs.Corner.{three, triangle}
+use Rattle.touch.specs.Edges.{starts}
 use Rattle.touch.specs.Cover.{HasPoint}
-use Rattle.touch.proofs.Sizes.{three-placed, outline}
 use Rattle.touch.proofs.Covering.{point_as_triangle}
 use Rattle.inside.specs.Inside.{Inside}
 use Rattle.inside.proofs.Means.{ThreeInside, inside_by_three}
+use Rattle.inside.proofs.AndThen.{made, not_made}
 use Rattle.inside.proofs.is_inside.Goals as goal
-use Rattle.inside.proofs.is_inside.Goals.{After-edges_of-edges, After-three_of-inner}
-
--- the vertices of a shape in range are
-all_placed : (shape : Shape) {v : Three} → v ≡ three shape → InRange shape → AllPlaced v
-all_placed shape e h = subst AllPlaced (sym e) (three-placed shape h)
-
--- the edges are those of the second shape, and the box is around it
-outlined : (c : After-edges_of-edges) → Outline c.edges_of-edges.result
-outlined c = subst Outline (sym c.edges_of-edges.ensures) (outline (all_placed c.args.second c.three_of-outer.ensures c.requires.1))
-
-around : (c : After-edges_of-edges) → c.bounds_of-around.result ≡ bounds (starts c.edges_of-edges.result)
-around c = c.bounds_of-around.ensures ∙ ap (λ (e : Edges). bounds (starts e)) (sym c.edges_of-edges.ensures)
+use Rattle.inside.proofs.is_inside.Goals.{Joined-has_point, then-has_point, else-has_point}
 
 -- what is told of the triangle of the second's vertices is told of the second
-told : (t : After-three_of-inner) (v : Vertex) (r : Bool) → Says r (HasPoint (triangle (starts t.edges_of-edges.result)) v.x v.y)
+told : (t : Joined-has_point) (v : Vertex) {r : Bool} → Says r (HasPoint (triangle (starts t.figure_of-outer.result.edges)) v.x v.y)
     → Says r (HasPoint t.args.second v.x v.y)
-told t v r h =
+told t v {r} h =
     let second : Shape = t.args.second in
-    let same : starts t.edges_of-edges.result ≡ three second = ap starts t.edges_of-edges.ensures ∙ t.three_of-outer.ensures in
+    let same : starts t.figure_of-outer.result.edges ≡ three second = ap starts t.figure_of-outer.ensures ∙ t.three_of.ensures in
     says_iff (point_as_triangle second).1 (point_as_triangle second).0
     (subst (λ (w : Three). Says r (HasPoint (triangle w) v.x v.y)) same h)
 
 -- the first is inside the second exactly if the three vertices are points of that
-by_three : (t : After-three_of-inner) → let a = t.args in
-    ThreeInside t.three_of-inner.result a.second ↔ Inside a.first a.second
+by_three : (t : Joined-has_point) → let a = t.args in
+    ThreeInside t.three_of-2.result a.second ↔ Inside a.first a.second
 by_three t =
     let a = t.args in
-    rw t.three_of-inner.ensures (inside_by_three a.first a.second)
+    rw t.three_of-2.ensures (inside_by_three a.first a.second)
 
-pub edges_of-edges-requires : goal.edges_of-edges-requires
-edges_of-edges-requires c = all_placed c.args.second c.three_of-outer.ensures c.requires.1
+-- the first two vertices
+first_two : (c : Joined-has_point) → let v = c.three_of-2.result in let second = c.args.second in
+    Says c.if-has_point.value (HasPoint second v.a.x v.a.y × HasPoint second v.b.x v.b.y)
+first_two c =
+    let v : Three = c.three_of-2.result in
+    let a = told c v.a c.has_point.ensures in
+    elim c.if-has_point.branch [
+      | then-has_point w ↦ made a w.if-has_point.true (told c v.b w.has_point-then-has_point.ensures) w.value-is
+      | else-has_point w ↦ not_made a w.if-has_point.false w.value-is
+    ]
 
-pub has_point-a-requires : goal.has_point-a-requires
-has_point-a-requires c =
-    let t = (goal.at.has_point-a-requires c).After-edges_of-edges in
-    (outlined t, around t, (all_placed c.args.first c.three_of-inner.ensures c.requires.0).a)
+pub returns-then-has_point-2 : goal.returns-then-has_point-2
+returns-then-has_point-2 c =
+    let t = (goal.at.returns-then-has_point-2 c).Joined-has_point in
+    let v : Three = c.three_of-2.result in
+    let h = (first_two t).yes c.if-has_point-2.true in
+    says_iff (λ k. (by_three t).0 (h.0, h.1, k)) (λ i. ((by_three t).1 i).2) (told t v.c c.has_point-then-has_point-2.ensures)
 
-pub returns-then-not-a : goal.returns-then-not-a
-returns-then-not-a c =
-    let t = (goal.at.returns-then-not-a c).After-three_of-inner in
-    says_no (λ i. (told t c.three_of-inner.result.a _ c.has_point-a.ensures).no c.if-not-a.true ((by_three t).1 i).0)
-
-pub has_point-b-requires : goal.has_point-b-requires
-has_point-b-requires c =
-    let t = (goal.at.has_point-b-requires c).After-edges_of-edges in
-    (outlined t, around t, (all_placed c.args.first c.three_of-inner.ensures c.requires.0).b)
-
-pub returns-then-not-b : goal.returns-then-not-b
-returns-then-not-b c =
-    let t = (goal.at.returns-then-not-b c).After-three_of-inner in
-    says_no (λ i. (told t c.three_of-inner.result.b _ c.has_point-b.ensures).no c.if-not-b.true ((by_three t).1 i).1)
-
-pub has_point-requires : goal.has_point-requires
-has_point-requires c =
-    let t = (goal.at.has_point-requires c).After-edges_of-edges in
-    (outlined t, around t, (all_placed c.args.first c.three_of-inner.ensures c.requires.0).c)
-
-pub returns : goal.returns
-returns c =
-    let t = (goal.at.returns c).After-three_of-inner in
-    let inner : Three = c.three_of-inner.result in
-    let a = (told t inner.a _ c.has_point-a.ensures).yes c.if-not-a.false in
-    let yes : c.has_point-b.result ≡ true = cc in
-    let b = (told t inner.b _ c.has_point-b.ensures).yes yes in
-    says_iff (λ h. (by_three t).0 (a, b, h)) (λ i. ((by_three t).1 i).2) (told t inner.c _ c.has_point.ensures)
+pub returns-else-has_point-2 : goal.returns-else-has_point-2
+returns-else-has_point-2 c =
+    let t = (goal.at.returns-else-has_point-2 c).Joined-has_point in
+    let none = (first_two t).no c.if-has_point-2.false in
+    rw c.if-has_point-2.false (says_no (λ i. let h = (by_three t).1 i in none (h.0, h.1)))

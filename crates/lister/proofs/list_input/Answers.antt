@@ -9,7 +9,7 @@ returns-in_default c =
     record { within = puts_counts P (omega arith); text = rw c.in_default.is (puts_all P (omega arith)) }
 
 pub slice_bounds-list_bytes-end : goal.slice_bounds-list_bytes-end
-slice_bounds-list_bytes-end c = (rw c.in-Bytes.is at c.requires.1).1
+slice_bounds-list_bytes-end c = (rw c.in-Ok.is at c.requires.1).1
 
 pub returns : goal.returns
-returns c = record { within = c.list_bytes.ensures.within; text = rw c.in-Bytes.is c.list_bytes.ensures.text }
+returns c = record { within = c.list_bytes.ensures.within; text = rw c.in-Ok.is c.list_bytes.ensures.text }

@@ -12,7 +12,7 @@ returns-in_default c =
 
 pub put_listing-requires : goal.put_listing-requires
 put_listing-requires c =
-    let told = rw c.in-Sound.is at c.audit.ensures in
+    let told = rw c.in-Some.is at c.audit.ensures in
     record {
       sound = told.0;
       header_of = told.1;
@@ -22,7 +22,7 @@ put_listing-requires c =
 
 pub returns : goal.returns
 returns c =
-    let told = rw c.in-Sound.is at c.audit.ensures in
+    let told = rw c.in-Some.is at c.audit.ensures in
     let fits = listing≤ c.args.pool.now told.0 (omega arith) in
     record {
       within = puts_counts c.put_listing.ensures (omega arith);

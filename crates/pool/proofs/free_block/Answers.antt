@@ -1,14 +1,10 @@
 -- `free_block`: the link to the next block, and then poison in its places, are the words of the definition.
 use mathlib.Core.Path.{ap, ◌∙◌}
 use native.Mathlib.Numerals.{add-one}
-use native.Mathlib.Omega.{arith}
 use lib.ListN.{length, length-set}
 use Rattle.pool.specs.Editions.{layout_for}
 use Rattle.pool.proofs.Written.{length-written, free_block_lem}
 use Rattle.pool.proofs.free_block.Goals as goal
-
-pub fill-requires : goal.fill-requires
-fill-requires c = simp length-set (omega arith)
 
 pub shape_of-pool : goal.shape_of-pool
 shape_of-pool c = ap length c.fill.ensures ∙ length-written _ _ _ ∙ simp length-set

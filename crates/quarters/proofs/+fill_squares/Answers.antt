@@ -8,10 +8,10 @@ use native.Mathlib.Omega.{arith}
 use lib.Dec.{eqb}
 use Rattle.walk.specs.Row.{outlined}
 use Rattle.quarters.specs.declared.Square.{Square}
-use Rattle.quarters.specs.Square.{InwardOn, TouchedIn, beside_of, Small}
+use Rattle.quarters.specs.Square.{InwardOn, TouchedIn, TouchedInFirst, beside_of, Small}
 use Rattle.quarters.specs.Map.{WithOnes}
 use Rattle.quarters.proofs.Touched.{none_touched, all_touched, to_split}
-use Rattle.quarters.proofs.Ones.{ones_none, ones_iff, small_quarter, no_square, square_more, all_quarters}
+use Rattle.quarters.proofs.Ones.{ones_none, ones_iff, small_quarter, square_more, all_quarters}
 use Rattle.quarters.proofs.Inward.{inward_quarter}
 use Rattle.quarters.proofs.+fill_squares.Goals as goal
 use Rattle.quarters.proofs.+fill_squares.Goals.{After-beside-square, Else-is_whole-square, Joined-is_touched, then-is_touched+then-is_whole-square, then-is_touched+else-is_whole-square, else-is_touched}
@@ -27,18 +27,18 @@ split : (t : ℕ) (c : Else-is_whole-square t)
 split t c =
     let q = c.beside-square.result in
     let whole = ap (λ (w : Bool). w || eqb q.exponent 0) c.is_whole.ensures in
-    let look = c.square_look-looked in
-    to_split c.args.screen c.requires.allowed.0 (outlined c.args.edges) q look.result.cover (sym whole ∙ c.if-is_whole-square.false)
+    let look = c.look-looked in
+    to_split c.args.grid.screen c.args.grid.allowed (outlined c.args.figure.now.edges) q look.result.cover (sym whole ∙ c.if-is_whole-square.false)
 
 -- after the look, whatever it told, the touched tiles of the square are written
 written : (t : ℕ) (c : Joined-is_touched t)
     →
-    WithOnes (TouchedIn c.args.screen (outlined c.args.edges) c.beside-square.result) c.loop-k.map c.if-is_touched.map
+    WithOnes (TouchedIn c.args.grid.screen (outlined c.args.figure.now.edges) c.beside-square.result) c.loop-k.map c.if-is_touched.map
 written t c =
-    let look = c.square_look-looked in
-    let d = c.args.screen in
-    let a = c.requires.allowed.0 in
-    let shape = outlined c.args.edges in
+    let look = c.look-looked in
+    let d = c.args.grid.screen in
+    let a = c.args.grid.allowed in
+    let shape = outlined c.args.figure.now.edges in
     let q : Square = c.beside-square.result in
     let cover = look.result.cover in
     let says = sym c.is_touched.ensures in
@@ -55,69 +55,37 @@ written t c =
       | else-is_touched w ↦ subst become (sym w.map-is) (ones_none (none_touched d a shape q cover (says ∙ w.if-is_touched.false) look.ensures.cover))
     ]
 
-pub loop-k-init : goal.loop-k-init
-loop-k-init t c =
-    (omega arith, no_square c.args.screen (outlined c.args.edges) c.args.first c.args.map.now)
-
-pub beside-square-requires : goal.beside-square-requires
-beside-square-requires t c =
-    let n = c.requires.allowed.3 in
-    ((c.requires.by_index c.loop-k.k c.loop-k-test.true).0, omega arith)
-
-pub square_look-looked-requires : goal.square_look-looked-requires
-square_look-looked-requires t c =
-    let p = c.requires.allowed in
-    record {
-      allowed = (p.0, p.1, p.2, (small t (goal.at.square_look-looked-requires t c).After-beside-square).exponent);
-      inward_on =
-          subst (λ (r : Square). InwardOn c.args.known c.args.screen c.args.edges r) (sym c.beside-square.ensures)
-          (c.requires.by_index c.loop-k.k c.loop-k-test.true).1;
-    }
-
-pub set_tiles-requires : goal.set_tiles-requires
-set_tiles-requires t c =
-    let p = c.requires.allowed in
-    let size = c.loop-k.invariant.1.size in
-    let room = p.4 in
-    (p.0, small t (goal.at.set_tiles-requires t c).After-beside-square, omega arith)
-
-pub first_quarter-requires : goal.first_quarter-requires
-first_quarter-requires t c = split t (goal.at.first_quarter-requires t c).Else-is_whole-square
-
 pub fill_squares-requires : goal.fill_squares-requires
 fill_squares-requires t c =
-    let d = c.args.screen in
+    let d = c.args.grid.screen in
     let q : Square = c.beside-square.result in
-    let p = c.requires.allowed in
     let m : c.args.first.exponent ≡ t = c.decreases in
     let n = split t (goal.at.fill_squares-requires t c).Else-is_whole-square in
     let e = c.first_quarter.ensures in
     let z = ap (λ (r : Square). r.exponent) e in
     let y = ap (λ (r : Square). r.exponent) c.beside-square.ensures in
-    let size = c.loop-k.invariant.1.size in
-    let room = p.4 in
-    let w = c.square_look-looked.result.inward in (
+    let size = c.loop-k.invariant.size in
+    let room = c.requires.allowed.1 in
+    let w = c.look-looked.result.inward in (
       omega arith,
       (
-        (p.0, p.1, p.2, omega arith, omega arith),
+        (omega arith, omega arith),
         (λ k h.
             let k< : k < 4 = omega arith in (
               subst (λ (r : Square). Small (beside_of r k)) (sym e)
                   (small_quarter q n (small t (goal.at.fill_squares-requires t c).After-beside-square) k<),
-              subst (λ (r : Square). InwardOn w d c.args.edges (beside_of r k)) (sym e)
-                  (inward_quarter d p.0 w c.args.edges q n k< c.square_look-looked.ensures.inward),
+              subst (λ (r : Square). InwardOn w d c.args.figure.now.edges (beside_of r k)) (sym e)
+                  (inward_quarter d c.args.grid.allowed w c.args.figure.now.edges q n k< c.look-looked.ensures.inward),
             )),
       ),
     )
 
 pub loop-k-preserved : goal.loop-k-preserved
 loop-k-preserved t c =
-    (omega arith, square_more c.args.screen (outlined c.args.edges) c.args.first c.loop-k.invariant.1 (rw c.beside-square.ensures at (written t (goal.at.loop-k-preserved t c).Joined-is_touched)))
-
-pub shape_of-map : goal.shape_of-map
-shape_of-map t c = c.loop-k.invariant.1.size
+    square_more c.args.grid.screen (outlined c.args.figure.now.edges) c.args.first c.loop-k.invariant
+    (rw c.beside-square.ensures at (written t (goal.at.loop-k-preserved t c).Joined-is_touched))
 
 pub returns : goal.returns
 returns t c =
-    let k : c.loop-k.k ≡ c.args.count = let i = c.loop-k.invariant.0 in omega arith in
-    rw k at c.loop-k.invariant.1
+    let all : c.loop-k.k ≡ c.args.count = omega arith in
+    subst (λ (n : ℕ). WithOnes (TouchedInFirst c.args.grid.screen (outlined c.args.figure.now.edges) c.args.first n) c.args.map.now c.loop-k.map) all c.loop-k.invariant

@@ -1,6 +1,5 @@
 -- The proof of the cycle of calls {fill_squares}: the side's exponent falls. A square that is not touched has no touched tile; one that is wholly covered, or is
 -- a single tile, has no other; and any other has the touched tiles of its four quarters. An edge that has the square on its inner side has its quarters there.
-use Prim.Native.Nat.{◌-◌, ◌≤◌}
 use Rattle.walk.specs.Row.{outlined}
 use Rattle.quarters.specs.Square.{TouchedInFirst}
 use Rattle.quarters.specs.Map.{WithOnes}
@@ -10,7 +9,4 @@ abbrev pub decreases-fill_squares : goal.decreases-fill_squares
 decreases-fill_squares l = l.first.exponent
 
 abbrev pub invariant-loop-k : goal.invariant-loop-k
-invariant-loop-k l = (l.k ≤ l.count) × WithOnes (TouchedInFirst l.screen (outlined l.edges) l.first l.k) l.initial.map l.map
-
-abbrev pub decreases-loop-k : goal.decreases-loop-k
-decreases-loop-k l = l.count - l.k
+invariant-loop-k l = WithOnes (TouchedInFirst l.grid.screen (outlined l.figure.edges) l.first l.k) l.initial.map l.map

@@ -1,43 +1,41 @@
--- `quarters::exponent_of` meets its contract: every smaller exponent has been found too small.
-use mathlib.Core.Path.{◌≡◌}
+-- `quarters::exponent_of` meets its contract: the exponent of the next power of two is the one below which half of that power lies.
+use mathlib.Core.Path.{◌≡◌, ap, sym, ◌∙◌}
 use mathlib.Core.Logic.{⊎_elim}
-use Prim.Native.Nat.{ℕ, ◌^◌, ◌≤◌, ◌<◌, max}
+use Prim.Native.Nat.{ℕ, ◌+◌, ◌*◌, ◌^◌, ◌≤◌, ◌<◌}
 use native.Mathlib.Omega.{arith}
-use lib.Pow.{pow_mono}
+use lib.Pow.{pow_mono, pow-add, pow_pos}
 use Rattle.numbers.proofs.Ceil.{lt_or_ge}
 use Rattle.quarters.proofs.exponent_of.Goals as goal
-use Rattle.quarters.proofs.exponent_of.Goals.{else-m-n, then-m-n}
 
 -- a smaller power has a smaller exponent
 less : {a b : ℕ} → 2 ^ a < 2 ^ b → a < b
 less {a} {b} h = ⊎_elim (λ (l : a < b). l) (λ (l : b ≤ a). absurd (omega (arith, pow_mono {i = b} {j = a} l))) (lt_or_ge a b)
 
-below_nine : {m n most e r : ℕ} → (m ≤ 512) × (n ≤ 512) → most ≡ max m n → r ≡ 2 ^ e → r < most → e < 9
-below_nine {e = e} b i p h = less {a = e} {b = 9} (omega arith)
-
-pub loop-exponent-init : goal.loop-exponent-init
-loop-exponent-init c = (elim c.if-m-n.branch [ then-m-n w ↦ omega arith | else-m-n w ↦ omega arith ], omega arith, λ k h. omega arith)
-
-pub side_in_tiles-requires : goal.side_in_tiles-requires
-side_in_tiles-requires c = c.loop-exponent.invariant.1
-
-pub loop-exponent-smaller : goal.loop-exponent-smaller
-loop-exponent-smaller c =
-    let i = c.loop-exponent.invariant in
-    omega (arith, below_nine c.requires i.0 c.side_in_tiles.ensures.0 c.loop-exponent-test.true)
-
-pub loop-exponent-preserved : goal.loop-exponent-preserved
-loop-exponent-preserved c =
-    let i = c.loop-exponent.invariant in
-    let e = c.side_in_tiles.ensures.0 in (
-      i.0,
-      omega (arith, below_nine c.requires i.0 e c.loop-exponent-test.true),
-      λ k h. omega (arith, less {a = c.loop-exponent.exponent} {b = k} (omega arith)),
-    )
+-- the exponent of a power, by what `ilog2` says of it
+exponent_is : {k e : ℕ} → 2 ^ e ≤ 2 ^ k → 2 ^ k < 2 * 2 ^ e → e ≡ k
+exponent_is {k} {e} l h =
+    let s : 2 ^ (e + 1) ≡ 2 * 2 ^ e = pow-add 2 e 1 ∙ omega arith in
+    let a = less {a = k} {b = e + 1} (omega arith) in
+    let b : e < k + 1 = less {a = e} {b = k + 1} (let t : 2 ^ (k + 1) ≡ 2 * 2 ^ k = pow-add 2 k 1 ∙ omega arith in omega arith) in
+    omega arith
 
 pub returns : goal.returns
 returns c =
-    let i = c.loop-exponent.invariant in
-    let e = c.side_in_tiles.ensures.0 in
-    let m = i.0 in
-    (record { first = omega arith; second = omega arith; least = λ k x y. i.2 k (omega arith) }, i.1)
+    let m = c.max-most.ensures in
+    let p = c.next_power_of_two.ensures in
+    let w = p.power.1 in
+    let low = p.lower_bound in
+    let half = p.upper_bound in
+    let is : c.ilog2.result ≡ p.power.0 = exponent_is (let l = c.ilog2.ensures.power_le in omega arith) (let l = c.ilog2.ensures.next_power_gt in omega arith) in
+    let power : c.next_power_of_two.result ≡ 2 ^ c.ilog2.result = w ∙ ap (λ (k : ℕ). 2 ^ k) (sym is) in
+    let e : c.ilog2.result < 10 = less {a = c.ilog2.result} {b = 10} (omega arith) in (
+      record {
+        first = omega arith;
+        second = omega arith;
+        least = λ k x y. ⊎_elim
+            (λ (l : k < c.ilog2.result). absurd (omega (arith, pow_mono {i = k + 1} {j = c.ilog2.result} (omega arith), pow-add 2 k 1, pow_pos k)))
+            (λ (l : c.ilog2.result ≤ k). l)
+            (lt_or_ge k c.ilog2.result);
+      },
+      omega arith,
+    )

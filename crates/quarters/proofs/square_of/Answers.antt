@@ -7,10 +7,10 @@ use Rattle.quarters.proofs.square_of.Goals as goal
 
 pub exponent_of-requires : goal.exponent_of-requires
 exponent_of-requires c =
-    let d = c.args.screen in
-    let a = c.requires in
-    let e = c.columns_of.ensures in
-    let f = c.rows_of.ensures in
+    let d = c.args.grid.screen in
+    let a = c.args.grid.allowed in
+    let e = c.columns.ensures in
+    let f = c.rows.ensures in
     (omega (arith, across≤ d.width d.s a.width≤ a.s≥), omega (arith, across≤ d.height d.s a.height≤ a.s≥))
 
 pub returns : goal.returns
@@ -20,6 +20,6 @@ returns c =
     record {
       column = refl;
       row = refl;
-      smallest = rw (c.columns_of.ensures, c.rows_of.ensures) at e.0;
+      smallest = rw (c.columns.ensures, c.rows.ensures) at e.0;
       small = record { exponent = e.1; column = omega arith; row = omega arith };
     }

@@ -1,59 +1,29 @@
--- `shapes::check` meets its contract: the words passed are right, and the first that are not end it.
-use mathlib.Core.Path.{refl, sym, subst}
-use Prim.Native.Nat.{ℕ}
+-- `shapes::check` meets its contract: each chunk of the list has the words of one shape.
+use mathlib.Core.Path.{◌≡◌, refl, ap, subst, ◌∙◌}
+use borrow.Author.Rules.{rules}
 use native.Mathlib.Omega.{arith}
-use borrow.Author.Count.{below_more}
-use Rattle.shapes.specs.Shapes.{words_from, words_at, RightWords}
-use Rattle.shapes.proofs.Words.{place_room}
+use Rattle.std.specs.Iterator.Runs.{IsChunksExactRun}
+use Rattle.std.specs.Slice.Iter.{chunks_exact_size, chunks_exact_rest}
+use Rattle.numbers.specs.Says.{Says}
+use Rattle.shapes.proofs.Words.{AllRight, chunks_say}
 use Rattle.shapes.proofs.check.Goals as goal
+use Rattle.shapes.proofs.check.Goals.{After-all}
 
-pub nonzero_div-count : goal.nonzero_div-count
-nonzero_div-count c = omega arith
+rights : (c : After-all) → Says c.all.result (AllRight c.args.size c.args.list.now)
+rights c =
+    let ran = c.all.ensures.runs in
+    let p = ran.0 in
+    let size : chunks_exact_size p.from ≡ c.args.size
+    = ap chunks_exact_size ran.1 ∙ c.chunks_exact.ensures.size in
+    let list : chunks_exact_rest p.from ≡ c.args.list.now
+    = ap chunks_exact_rest ran.1 ∙ c.chunks_exact.ensures.rest in
+    let run = c.chunks_exact.ensures.runs p p.seen (omega (arith, c.requires)) in
+    chunks_say p c.args.size c.args.list.now c.requires
+    (subst (λ (P : Type 0). P) (λ i. IsChunksExactRun p (size i) (list i)) run)
+    (λ x r k. search rules) (λ x r q k. search rules) c.all.result ran.2
 
-pub nonzero_rem-words : goal.nonzero_rem-words
-nonzero_rem-words c = omega arith
+pub returns-then-all : goal.returns-then-all
+returns-then-all c = (record { whole = search rules; few = search rules; each = (rights (goal.at.returns-then-all c).After-all).yes c.if-all.true }, refl)
 
-pub returns-then-words-size-ne0 : goal.returns-then-words-size-ne0
-returns-then-words-size-ne0 c = λ r. c.if-words-size-ne0.true r.whole
-
-pub returns-then-count-gt-MOST_SHAPES : goal.returns-then-count-gt-MOST_SHAPES
-returns-then-count-gt-MOST_SHAPES c = λ r. let few = r.few in omega arith
-
-pub loop-place-init : goal.loop-place-init
-loop-place-init c = (omega arith, omega arith, λ i h. absurd (omega arith))
-
-pub right_at-requires : goal.right_at-requires
-right_at-requires c = omega (arith, place_room c.args.size c.args.list.now c.loop-place.place c.loop-place-test.true, c.requires)
-
-pub returns-then-not-right_at : goal.returns-then-not-right_at
-returns-then-not-right_at c =
-    let l = c.loop-place in
-    λ r.
-    c.right_at.ensures.no c.if-not-right_at.true
-    (subst (λ (k : ℕ). RightWords (words_from c.args.list.now k)) (sym l.invariant.1) (r.each l.place c.loop-place-test.true))
-
-pub overflow_add-place : goal.overflow_add-place
-overflow_add-place c = omega arith
-
-pub overflow_add-at : goal.overflow_add-at
-overflow_add-at c =
-    let l = c.loop-place in
-    omega (arith, place_room c.args.size c.args.list.now l.place c.loop-place-test.true, c.well_formed.0.0)
-
-pub loop-place-smaller : goal.loop-place-smaller
-loop-place-smaller c = omega arith
-
-pub loop-place-preserved : goal.loop-place-preserved
-loop-place-preserved c =
-    let l = c.loop-place in
-    let right = c.right_at.ensures.yes c.if-not-right_at.false in (
-      omega arith,
-      omega (arith, l.invariant.1),
-      below_more (λ i. RightWords (words_at c.args.size c.args.list.now i)) l.place l.invariant.2
-          (subst (λ (k : ℕ). RightWords (words_from c.args.list.now k)) l.invariant.1 right),
-    )
-
-pub returns : goal.returns
-returns c =
-    let l = c.loop-place in
-    (record { whole = c.if-words-size-ne0.false; few = c.if-count-gt-MOST_SHAPES.false; each = λ i h. l.invariant.2 i (omega arith) }, refl)
+pub returns-else-all : goal.returns-else-all
+returns-else-all c = (λ r. (rights (goal.at.returns-else-all c).After-all).no c.if-all.false r.each, refl)

@@ -1,54 +1,57 @@
--- `shapes::shape_at` meets its contract: each word that is read is what stands in the list, and the tests of the kind pick the shape.
+-- `shapes::shape_at` meets its contract: each word that is read is what stands in the list, and the kind picks the shape.
 use mathlib.Core.Path.{◌≡◌, sym, ap, ◌∙◌}
+use mathlib.Core.Bool.{true, false}
 use Prim.Native.Nat.{ℕ, ◌+◌}
 use native.Mathlib.Omega.{arith}
+use borrow.Author.Rules.{rules}
 use lib.ListN.{get_or}
 use lib.IntN.{ℤ, pos}
-use lib.Signed.{le_z}
+use lib.Signed.{lt_z}
 use mir.Syntax.{w32}
+use mir.Val.{of_z}
 use Rattle.numbers.specs.Is.{kept}
 use Rattle.numbers.proofs.Is.{kept_is}
 use Rattle.shape.specs.declared.Vertex.{Vertex}
 use Rattle.shape.specs.declared.Shape.TheVariants.{Point, Line, Triangle}
 use Rattle.shapes.specs.Shapes.{words_from, vertex_from}
-use Rattle.shapes.proofs.ByKind.{is_point, is_line, is_triangle}
+use Rattle.shapes.proofs.Words.{read_as}
+use Rattle.shapes.proofs.ByKind.{up_to_1, kind_2, past_2}
 use Rattle.shapes.proofs.shape_at.Goals as goal
-use Rattle.shapes.proofs.shape_at.Goals.{After-y3-1}
+use Rattle.shapes.proofs.shape_at.Goals.{In-minus2147483648-to-1, In-2, In_default}
 
-abbrev vertex : (x y : ℤ) → Vertex
-vertex x y = record { x = x; y = y }
+abbrev read : (x y : ℤ) → Vertex
+read x y = record { x = kept w32 x; y = kept w32 y }
 
--- ---- after all words are read
+reads : (w : ℕ → ℤ) (x y : ℕ) → kept w32 (w x) ≡ w x → kept w32 (w y) ≡ w y → read (w x) (w y) ≡ vertex_from w x y
+reads w x y e f = λ i. record { x = e i; y = f i }
 
-abbrev words : After-y3-1 → (ℕ → ℤ)
-words c = words_from c.args.list.now c.args.at
+pub returns-in-minus2147483648-to-1 : goal.returns-in-minus2147483648-to-1
+returns-in-minus2147483648-to-1 c =
+    let w : ℕ → ℤ = words_from c.args.list.now c.args.at in
+    let here : c.args.at ≡ c.args.at + 0 = omega arith in
+    let word : kept w32 (get_or c.args.list.now c.args.at (pos 0)) ≡ w 0
+    = kept_is w32 _ (omega arith) ∙ ap (λ (k : ℕ). get_or c.args.list.now k (pos 0)) here in
+    let test : lt_z (kept w32 (get_or c.args.list.now c.args.at (pos 0))) (pos 2) ≡ true = cc in
+    ap Point (reads w 1 2 (kept_is w32 (w 1) (omega arith)) (kept_is w32 (w 2) (omega arith))) ∙ sym (up_to_1 w (ap (λ (z : ℤ). lt_z z (pos 2)) (sym word) ∙ test))
 
-kind : (c : After-y3-1) → kept w32 (get_or c.args.list.now c.args.at (pos 0)) ≡ words c 0
-kind c =
-    let e : c.args.at ≡ c.args.at + 0 = omega arith in
-    kept_is w32 _ c.kind-1.given ∙ ap (λ (k : ℕ). get_or c.args.list.now k (pos 0)) e
+pub returns-in-2 : goal.returns-in-2
+returns-in-2 c =
+    let w : ℕ → ℤ = words_from c.args.list.now c.args.at in
+    let here : c.args.at + 0 ≡ c.args.at = omega arith in
+    let is : of_z w32 (get_or c.args.list.now c.args.at (pos 0)) ≡ 2 = omega arith in
+    let a = reads w 1 2 (kept_is w32 (w 1) (omega arith)) (kept_is w32 (w 2) (omega arith)) in
+    let b = reads w 3 4 (kept_is w32 (w 3) (omega arith)) (kept_is w32 (w 4) (omega arith)) in
+    (λ i. Line (a i) (b i)) ∙ sym (kind_2 w (ap (λ (k : ℕ). get_or c.args.list.now k (pos 0)) here ∙ read_as (omega arith) is))
 
-first : (c : After-y3-1) → vertex (kept w32 (words c 1)) (kept w32 (words c 2)) ≡ vertex_from (words c) 1 2
-first c = λ i. vertex (kept_is w32 (words c 1) c.x1-1.given i) (kept_is w32 (words c 2) c.y1-1.given i)
-
-second : (c : After-y3-1) → vertex (kept w32 (words c 3)) (kept w32 (words c 4)) ≡ vertex_from (words c) 3 4
-second c = λ i. vertex (kept_is w32 (words c 3) c.x2-1.given i) (kept_is w32 (words c 4) c.y2-1.given i)
-
-third : (c : After-y3-1) → vertex (kept w32 (words c 5)) (kept w32 (words c 6)) ≡ vertex_from (words c) 5 6
-third c = λ i. vertex (kept_is w32 (words c 5) c.x3-1.given i) (kept_is w32 (words c 6) c.y3-1.given i)
-
--- a test of the kind that is read is that of the word
-tested : (c : After-y3-1) (n : ℕ) → le_z (words c 0) (pos n)
-    ≡ le_z (kept w32 (get_or c.args.list.now c.args.at (pos 0))) (pos n)
-tested c n = sym (ap (λ (k : ℤ). le_z k (pos n)) (kind c))
-
-pub returns-then-kind-le1 : goal.returns-then-kind-le1
-returns-then-kind-le1 c = ap Point (first (goal.at.returns-then-kind-le1 c).After-y3-1) ∙ sym (is_point (words (goal.at.returns-then-kind-le1 c).After-y3-1) (tested (goal.at.returns-then-kind-le1 c).After-y3-1 1 ∙ c.if-kind-le1.true))
-
-pub returns-then-kind-le2 : goal.returns-then-kind-le2
-returns-then-kind-le2 c =
-    (λ i. Line (first (goal.at.returns-then-kind-le2 c).After-y3-1 i) (second (goal.at.returns-then-kind-le2 c).After-y3-1 i)) ∙ sym (is_line (words (goal.at.returns-then-kind-le2 c).After-y3-1) (tested (goal.at.returns-then-kind-le2 c).After-y3-1 1 ∙ c.if-kind-le1.false) (tested (goal.at.returns-then-kind-le2 c).After-y3-1 2 ∙ c.if-kind-le2.true))
-
-pub returns : goal.returns
-returns c =
-    (λ i. Triangle (first (goal.at.returns c).After-y3-1 i) (second (goal.at.returns c).After-y3-1 i) (third (goal.at.returns c).After-y3-1 i)) ∙ sym (is_triangle (words (goal.at.returns c).After-y3-1) (tested (goal.at.returns c).After-y3-1 1 ∙ c.if-kind-le1.false) (tested (goal.at.returns c).After-y3-1 2 ∙ c.if-kind-le2.false))
+pub returns-in_default : goal.returns-in_default
+returns-in_default c =
+    let w : ℕ → ℤ = words_from c.args.list.now c.args.at in
+    let here : c.args.at ≡ c.args.at + 0 = omega arith in
+    let at-0 = ap (λ (k : ℕ). get_or c.args.list.now k (pos 0)) here in
+    let word : kept w32 (get_or c.args.list.now c.args.at (pos 0)) ≡ w 0 = kept_is w32 _ (omega arith) ∙ at-0 in
+    let test : lt_z (kept w32 (get_or c.args.list.now c.args.at (pos 0))) (pos 2) ≡ false = cc in
+    let not-2 : of_z w32 (get_or c.args.list.now c.args.at (pos 0)) ≡ 2 → ⊥ = search rules in
+    let a = reads w 1 2 (kept_is w32 (w 1) (omega arith)) (kept_is w32 (w 2) (omega arith)) in
+    let b = reads w 3 4 (kept_is w32 (w 3) (omega arith)) (kept_is w32 (w 4) (omega arith)) in
+    let d = reads w 5 6 (kept_is w32 (w 5) (omega arith)) (kept_is w32 (w 6) (omega arith)) in
+    (λ i. Triangle (a i) (b i) (d i)) ∙ sym (past_2 w (ap (λ (z : ℤ). lt_z z (pos 2)) (sym word) ∙ test) (λ e. not-2 (ap (of_z w32) (at-0 ∙ e))))

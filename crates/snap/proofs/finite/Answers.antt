@@ -5,23 +5,24 @@ use lib.Ieee.{Float, nan, inf, fin, of_bits, div, neg, lt}
 use lib.Ieee.Scale.{finite}
 use Rattle.snap.proofs.finite.Goals as goal
 
-below_infinity : (v : Float) → lt v (inf false) ≡ true → lt (inf true) v ≡ finite v
+above_infinity : (v : Float) → lt (inf true) v ≡ true → lt v (inf false) ≡ finite v
 unfolding lt
-below_infinity nan h = refl
-below_infinity (inf false) h = absurd (false≢true h)
-below_infinity (inf true) h = refl
-below_infinity (fin s m e) h = refl
+above_infinity nan h = refl
+above_infinity (inf false) h = refl
+above_infinity (inf true) h = absurd (false≢true h)
+above_infinity (fin s m e) h = refl
 
-not_below_infinity : (v : Float) → lt v (inf false) ≡ false → false ≡ finite v
+not_above_infinity : (v : Float) → lt (inf true) v ≡ false → lt (inf true) v ≡ finite v
 unfolding lt
-not_below_infinity nan h = refl
-not_below_infinity (inf s) h = refl
-not_below_infinity (fin s m e) h = absurd (true≢false h)
+not_above_infinity nan h = refl
+not_above_infinity (inf false) h = absurd (true≢false h)
+not_above_infinity (inf true) h = refl
+not_above_infinity (fin s m e) h = absurd (true≢false h)
 
-pub returns-then-v-infinity : goal.returns-then-v-infinity
+pub returns-then-infinity-v : goal.returns-then-infinity-v
 unfolding of_bits div neg
-returns-then-v-infinity c = below_infinity c.args.v c.if-v-infinity.true
+returns-then-infinity-v c = above_infinity c.args.v c.if-infinity-v.true
 
-pub returns : goal.returns
+pub returns-else-infinity-v : goal.returns-else-infinity-v
 unfolding of_bits div neg
-returns c = not_below_infinity c.args.v c.if-v-infinity.false
+returns-else-infinity-v c = not_above_infinity c.args.v c.if-infinity-v.false

@@ -5,14 +5,15 @@ use lib.Ieee.{of_bits, neg}
 use Rattle.snap.proofs.Sum.{rounds}
 use Rattle.snap.proofs.Limit.{below_refused, above_refused, within}
 use Rattle.snap.proofs.rounded.Goals as goal
+use Rattle.snap.proofs.rounded.Goals.{then-units-via-then-units, then-units-via-else-units+then-units-2}
 
 pub returns-then-units : goal.returns-then-units
 unfolding of_bits neg
-returns-then-units c = sym (below_refused _ _ _ c.if-units.true (lit≤ tt))
-
-pub returns-then-units-2 : goal.returns-then-units-2
-unfolding of_bits neg
-returns-then-units-2 c = sym (above_refused _ _ _ c.if-units-2.true (lit≤ tt))
+returns-then-units c =
+    elim c.then-units.branch [
+      | then-units-via-then-units w ↦ sym (below_refused _ _ _ w.if-units.true (lit≤ tt))
+      | then-units-via-else-units+then-units-2 w ↦ sym (above_refused _ _ _ w.if-units-2.true (lit≤ tt))
+    ]
 
 pub returns : goal.returns
 unfolding of_bits neg

@@ -4,21 +4,15 @@ use mir.Syntax.{w64}
 use Rattle.numbers.specs.Is.{Is, kept}
 use Rattle.numbers.proofs.Is.{is_sub, is_fits, is_kept}
 use Rattle.touch.specs.Edges.{Within}
-use Rattle.touch.proofs.Sizes.{is_within, way, part}
+use Rattle.touch.proofs.Sizes.{is_within, part}
 use Rattle.touch.proofs.corners_at.Goals as goal
 
 value : {z x d u : ℤ} → Within 524288 z → Within 262144 x → Within 524288 d → Within 412316860416 u
     → Is (kept w64 (kept w64 (kept w64 z -ℤ kept w64 x) *ℤ kept w64 d) -ℤ kept w64 u) ((z -ℤ x) *ℤ d -ℤ u) 824633720832
 value p q r s = is_sub (is_kept w64 tt (part p q r)) (is_kept w64 tt (is_within s))
 
-pub overflow_sub-near : goal.overflow_sub-near
-overflow_sub-near c = let p = c.requires in is_fits tt (way p.1 p.0.x)
-
 pub overflow_mul-near : goal.overflow_mul-near
 overflow_mul-near c = let p = c.requires in is_fits tt (part p.1 p.0.x p.0.dy)
-
-pub overflow_sub-far : goal.overflow_sub-far
-overflow_sub-far c = let p = c.requires in is_fits tt (way p.2 p.0.x)
 
 pub overflow_mul-far : goal.overflow_mul-far
 overflow_mul-far c = let p = c.requires in is_fits tt (part p.2 p.0.x p.0.dy)

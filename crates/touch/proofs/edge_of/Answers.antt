@@ -4,45 +4,15 @@ use mir.Syntax.{w32, w64}
 use Rattle.numbers.specs.Is.{Is, kept}
 use Rattle.numbers.proofs.Is.{is_sub, is_mul, is_fits, is_kept}
 use Rattle.shape.specs.Shape.{InUnits}
-use Rattle.touch.proofs.Sizes.{unit, wide}
+use Rattle.touch.proofs.Sizes.{wide}
 use Rattle.touch.proofs.edge_of.Goals as goal
 
 -- the difference of two coordinates, widened
 delta : {z y : ℤ} → InUnits z → InUnits y → Is (kept w64 (kept w64 (kept w32 z) -ℤ kept w64 (kept w32 y))) (z -ℤ y) 524288
 delta p q = is_kept w64 tt (is_sub (wide p) (wide q))
 
-pub overflow_cast-x : goal.overflow_cast-x
-overflow_cast-x c = is_fits tt (is_kept w32 tt (unit c.requires.0.x))
-
-pub overflow_cast-y : goal.overflow_cast-y
-overflow_cast-y c = is_fits tt (is_kept w32 tt (unit c.requires.0.y))
-
-pub overflow_cast-dx : goal.overflow_cast-dx
-overflow_cast-dx c = is_fits tt (is_kept w32 tt (unit c.requires.1.x))
-
-pub overflow_sub-dx : goal.overflow_sub-dx
-overflow_sub-dx c = let p = c.requires in is_fits tt (is_sub (wide p.1.x) (wide p.0.x))
-
-pub overflow_cast-dy : goal.overflow_cast-dy
-overflow_cast-dy c = is_fits tt (is_kept w32 tt (unit c.requires.1.y))
-
-pub overflow_sub-dy : goal.overflow_sub-dy
-overflow_sub-dy c = let p = c.requires in is_fits tt (is_sub (wide p.1.y) (wide p.0.y))
-
-pub overflow_cast-third : goal.overflow_cast-third
-overflow_cast-third c = is_fits tt (is_kept w32 tt (unit c.requires.2.x))
-
-pub overflow_sub-third : goal.overflow_sub-third
-overflow_sub-third c = let p = c.requires in is_fits tt (is_sub (wide p.2.x) (wide p.0.x))
-
 pub overflow_mul-third : goal.overflow_mul-third
 overflow_mul-third c = let p = c.requires in is_fits tt (is_mul (delta p.2.x p.0.x) (delta p.1.y p.0.y))
-
-pub overflow_cast-third-2 : goal.overflow_cast-third-2
-overflow_cast-third-2 c = is_fits tt (is_kept w32 tt (unit c.requires.2.y))
-
-pub overflow_sub-third-2 : goal.overflow_sub-third-2
-overflow_sub-third-2 c = let p = c.requires in is_fits tt (is_sub (wide p.2.y) (wide p.0.y))
 
 pub overflow_mul-third-2 : goal.overflow_mul-third-2
 overflow_mul-third-2 c = let p = c.requires in is_fits tt (is_mul (delta p.2.y p.0.y) (delta p.1.x p.0.x))

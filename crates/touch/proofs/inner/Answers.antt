@@ -1,12 +1,14 @@
 -- `touch::inner` meets its contract: the values are read as they are, and the tests are those of the definition.
 use mir.Syntax.{w64}
-use Rattle.touch.proofs.Answers.{inner, inner_says, says_same}
-use Rattle.touch.proofs.Sizes.{is_field}
+use mir.Val.{SFits}
+use Rattle.std.proofs.Common.{rules}
+use Rattle.std.proofs.lemmas.Int.{to_z-of_z}
+use Rattle.touch.proofs.Answers.{inner_says}
 use Rattle.touch.proofs.inner.Goals as goal
 
 pub returns : goal.returns
 returns c =
-    let third = is_field w64 c.args.edge.third c.struct_told-1.given.1.1.0.1 in
-    let least = is_field w64 c.args.ends.least c.struct_told-2-1.given.0.1 in
-    let greatest = is_field w64 c.args.ends.greatest c.struct_told-3-1.given.1.0.1 in
-    says_same (λ i. inner (third.same i) (record { least = least.same i; greatest = greatest.same i })) (inner_says _ _)
+    let third : SFits w64 c.args.edge.third = search rules in
+    let least : SFits w64 c.args.ends.least = search rules in
+    let greatest : SFits w64 c.args.ends.greatest = search rules in
+    simp to_z-of_z (inner_says c.args.edge.third c.args.ends)

@@ -1,15 +1,17 @@
 -- `touch::keeps` meets its contract: the values are read as they are, and the signs are compared as in the definition.
 use mir.Syntax.{w64}
-use Rattle.touch.proofs.Answers.{on_side, on_side_says, says_same}
-use Rattle.touch.proofs.Sizes.{is_field}
+use mir.Val.{SFits}
+use Rattle.std.proofs.Common.{rules}
+use Rattle.std.proofs.lemmas.Int.{to_z-of_z}
+use Rattle.touch.proofs.Answers.{on_side_says}
 use Rattle.touch.proofs.keeps.Goals as goal
 
 pub returns : goal.returns
 returns c =
     let v = c.args.at in
-    let third = is_field w64 c.args.edge.third c.struct_told-1.given.1.1.0.1 in
-    let p = is_field w64 v.p c.struct_told-2-1.given.0.1 in
-    let q = is_field w64 v.q c.struct_told-3-1.given.1.0.1 in
-    let r = is_field w64 v.r c.struct_told-4-1.given.1.1.0.1 in
-    let t = is_field w64 v.s c.struct_told-5-1.given.1.1.1.0.1 in
-    says_same (λ i. on_side (third.same i) (record { p = p.same i; q = q.same i; r = r.same i; s = t.same i })) (on_side_says _ _)
+    let third : SFits w64 c.args.edge.third = search rules in
+    let p : SFits w64 v.p = search rules in
+    let q : SFits w64 v.q = search rules in
+    let r : SFits w64 v.r = search rules in
+    let s : SFits w64 v.s = search rules in
+    simp to_z-of_z (on_side_says c.args.edge.third v)

@@ -1,38 +1,27 @@
 -- `touch::overlap` meets its contract: the four sides are read as they are, and the four tests are the four orders.
+use mathlib.Core.Path.{◌≡◌}
+use native.Mathlib.Omega.{arith}
+use lib.IntN.{ℤ}
 use mir.Syntax.{w32, w64}
-use Rattle.numbers.proofs.Is.{is_kept, is_fits}
-use Rattle.touch.proofs.Sizes.{is_field}
-use Rattle.touch.proofs.Answers.{overlap, overlap_says, says_same}
+use mir.Val.{SFits, to_z, of_z}
+use Rattle.std.proofs.Common.{rules}
+use Rattle.std.proofs.lemmas.Int.{ints, to_z-of_z}
+use Rattle.touch.proofs.Answers.{overlap_says}
 use Rattle.touch.proofs.overlap.Goals as goal
 
-pub overflow_cast-result : goal.overflow_cast-result
-overflow_cast-result c = is_fits tt (is_field w32 c.args.around.right c.struct_told-1.given.1.0.1)
-
-pub overflow_cast-result-2 : goal.overflow_cast-result-2
-overflow_cast-result-2 c = is_fits tt (is_field w32 c.args.around.left c.struct_told-3-1.given.0.1)
-
-pub overflow_cast-result-3 : goal.overflow_cast-result-3
-overflow_cast-result-3 c = is_fits tt (is_field w32 c.args.around.bottom c.struct_told-5-1.given.1.1.1.0.1)
-
-pub overflow_cast-result-4 : goal.overflow_cast-result-4
-overflow_cast-result-4 c = is_fits tt (is_field w32 c.args.around.top c.struct_told-7-1.given.1.1.0.1)
+widened : (z : ℤ) → SFits w32 z → to_z w64 (of_z w64 z) ≡ z
+widened z f = omega (arith, ints)
 
 pub returns : goal.returns
 returns c =
-    let a = c.struct_told-7-1.given in
-    let r = c.struct_told-8-1.given in
-    says_same
-    (λ i. overlap
-    (record {
-      left = (is_kept w64 tt (is_field w32 c.args.around.left a.0.1)).same i;
-      right = (is_kept w64 tt (is_field w32 c.args.around.right a.1.0.1)).same i;
-      top = (is_kept w64 tt (is_field w32 c.args.around.top a.1.1.0.1)).same i;
-      bottom = (is_kept w64 tt (is_field w32 c.args.around.bottom a.1.1.1.0.1)).same i;
-    })
-    (record {
-      left = (is_field w64 c.args.rectangle.left r.0.1).same i;
-      right = (is_field w64 c.args.rectangle.right r.1.0.1).same i;
-      top = (is_field w64 c.args.rectangle.top r.1.1.0.1).same i;
-      bottom = (is_field w64 c.args.rectangle.bottom r.1.1.1.0.1).same i;
-    }))
-    (overlap_says c.args.around c.args.rectangle)
+    let p = c.args.around in
+    let q = c.args.rectangle in
+    let pl : SFits w32 p.left = search rules in
+    let pr : SFits w32 p.right = search rules in
+    let pt : SFits w32 p.top = search rules in
+    let pb : SFits w32 p.bottom = search rules in
+    let ql : SFits w64 q.left = search rules in
+    let qr : SFits w64 q.right = search rules in
+    let qt : SFits w64 q.top = search rules in
+    let qb : SFits w64 q.bottom = search rules in
+    simp (to_z-of_z, widened) (overlap_says p q)

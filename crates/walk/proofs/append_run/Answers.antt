@@ -1,10 +1,9 @@
--- `walk::append_run` meets its contract. The invariant: the columns passed are a run, and each of its words was tested. The measure is what is left of the span.
+-- `walk::append_run` meets its contract. The invariant: the columns passed are a run, and each of its words was tested.
 use Prim.Native.Nat.{◌+◌, ◌<◌}
 use mathlib.Core.Path.{sym, subst, ◌∙◌}
 use mathlib.Core.Bool.{Bool}
 use native.Mathlib.Omega.{arith}
 use lib.ListN.{length}
-use borrow.Author.Rules.{rules}
 use Rattle.numbers.specs.Flag.{flag}
 use Rattle.numbers.specs.Says.{Says}
 use Rattle.touch.proofs.Covering.{cover_says_clear, cover_says_enclosed}
@@ -14,10 +13,7 @@ use Rattle.walk.proofs.Grid.{tested, run_named}
 use Rattle.walk.proofs.append_run.Goals as goal
 
 pub loop-column-init : goal.loop-column-init
-loop-column-init c = (search rules, run_none _ _ _ _ _, words_none _ _)
-
-pub shape_of-list-then-not-is_touched : goal.shape_of-list-then-not-is_touched
-shape_of-list-then-not-is_touched c = c.loop-column.invariant.2.size
+loop-column-init c = (run_none _ _ _ _ _, words_none _ _)
 
 pub returns-then-not-is_touched : goal.returns-then-not-is_touched
 returns-then-not-is_touched c =
@@ -25,36 +21,27 @@ returns-then-not-is_touched c =
     let cover = c.cover_in-next in record {
       run = record {
         stop = l.column;
-        within = search rules;
-        run = l.invariant.1;
+        within = omega arith;
+        run = l.invariant.0;
         ends = λ h. (cover_says_clear cover.result cover.ensures).no (sym c.is_touched.ensures ∙ c.if-not-is_touched.true);
       };
-      words = l.invariant.2;
+      words = l.invariant.1;
     }
 
-pub overflow_add-base : goal.overflow_add-base
-overflow_add-base c = omega arith
-
-pub flagged-requires : goal.flagged-requires
-flagged-requires c = omega arith
-
-pub offset_bounds-list-at : goal.offset_bounds-list-at
-offset_bounds-list-at c = let r = c.loop-column.invariant.1 in omega (arith, r.as_many, r.from≤)
-
-pub bounds-list-at : goal.bounds-list-at
-bounds-list-at c = let r = c.loop-column.invariant.1 in omega (arith, r.as_many, r.from≤, c.loop-column.invariant.2.size)
+pub bounds-list-wide : goal.bounds-list-wide
+bounds-list-wide c = let r = c.loop-column.invariant.0 in omega (arith, r.as_many, r.from≤)
 
 pub overflow_add-n : goal.overflow_add-n
-overflow_add-n c = let r = c.loop-column.invariant.1 in omega (arith, r.as_many, r.from≤)
+overflow_add-n c = let r = c.loop-column.invariant.0 in omega (arith, r.as_many, r.from≤)
 
 pub loop-column-preserved : goal.loop-column-preserved
 loop-column-preserved c =
     let l = c.loop-column in
     let s = c.args in
-    let d = s.screen in
-    let e = s.edges in
-    let r = l.invariant.1 in
-    let size = l.invariant.2.size in
+    let d = s.grid.screen in
+    let e = s.row.edges in
+    let r = l.invariant.0 in
+    let size = l.invariant.1.size in
     let cover = c.cover_in-next in
     let clear = (cover_says_clear cover.result cover.ensures).yes (sym c.is_touched.ensures ∙ c.if-not-is_touched.false) in
     let whole : Says c.is_whole.result (EnclosedIn d e l.column)
@@ -62,15 +49,11 @@ loop-column-preserved c =
     let at : l.n < length l.list = omega (arith, r.as_many, r.from≤) in
     let small : s.base + l.column < flag = omega arith in
     let w = c.flagged.ensures in (
-      omega arith,
-      rw (c.wide-at.ensures, w) (run_named (ClearIn d e) s.list.now l.list r clear at small c.is_whole.result),
-      rw (c.wide-at.ensures, w) (words_more (omega (arith, r.as_many, r.from≤)) l.invariant.2 _ (tested d e small (omega arith) whole) at),
+      rw (c.wide.ensures, w) (run_named (ClearIn d e) s.list.now l.list r clear at small c.is_whole.result),
+      rw (c.wide.ensures, w) (words_more (omega (arith, r.as_many, r.from≤)) l.invariant.1 _ (tested d e small (omega arith) whole) at),
     )
-
-pub shape_of-list : goal.shape_of-list
-shape_of-list c = c.loop-column.invariant.2.size
 
 pub returns : goal.returns
 returns c =
     let l = c.loop-column in
-    record { run = record { stop = l.column; within = search rules; run = l.invariant.1; ends = λ h. absurd (omega arith) }; words = l.invariant.2 }
+    record { run = record { stop = l.column; within = omega arith; run = l.invariant.0; ends = λ h. absurd (omega arith) }; words = l.invariant.1 }

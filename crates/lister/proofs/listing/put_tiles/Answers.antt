@@ -21,7 +21,7 @@ list_is : (p : List ℕ) (header : Header) → HeaderOf (layout_of p) p header �
 list_is p header h T t e = ap₂ (λ (L : Layout) (n : ℕ). list_of L n p t) h.layout (e ∙ h.tiles)
 
 pub loop-t-init : goal.loop-t-init
-loop-t-init c = (puts_none _ _, omega arith, refl)
+loop-t-init c = (puts_none _ _, refl)
 
 pub put_tile-next-requires : goal.put_tile-next-requires
 put_tile-next-requires c =
@@ -48,10 +48,10 @@ loop-t-preserved c =
     let p = c.args.pool.now in
     let list = list_is p c.args.header c.requires.header_of c.wide-all.result l.t c.wide-all.ensures in
     let put = puts_then l.invariant.0 (rw list at c.put_tile-next.ensures) in
-    (rw (tile_lines-next p l.t) put, omega arith, omega arith)
+    (rw (tile_lines-next p l.t) put, omega arith)
 
 pub shape_of-list : goal.shape_of-list
-shape_of-list c = c.loop-t.invariant.2
+shape_of-list c = c.loop-t.invariant.1
 
 pub shape_of-out : goal.shape_of-out
 shape_of-out c = puts_long c.loop-t.invariant.0

@@ -1,13 +1,9 @@
 -- `put_tiles`: after t tiles, their lines have been put.
 use mathlib.Core.Path.{◌≡◌}
-use Prim.Native.Nat.{◌-◌, ◌≤◌}
 use lib.ListN.{length}
 use Rattle.pool.specs.Written.{Puts}
 use Rattle.lister.specs.Listing.{tile_lines}
 use Rattle.lister.proofs.listing.put_tiles.Given as goal
 
 abbrev pub invariant-loop-t : goal.invariant-loop-t
-invariant-loop-t l = Puts l.initial.out l.at (tile_lines l.pool l.t) l.out l.next × (l.t ≤ l.tiles) × (length l.list ≡ length l.initial.list)
-
-abbrev pub decreases-loop-t : goal.decreases-loop-t
-decreases-loop-t l = l.tiles - l.t
+invariant-loop-t l = Puts l.initial.out l.at (tile_lines l.pool l.t) l.out l.next × (length l.list ≡ length l.initial.list)

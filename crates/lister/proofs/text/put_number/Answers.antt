@@ -9,7 +9,7 @@ use Rattle.lister.proofs.text.put_number.Goals.{After-decimal-count}
 
 -- what `decimal` wrote
 spelled : (c : goal.After-decimal-count) → take c.decimal-count.result c.decimal-count.new.out ≡ numeral c.args.n
-spelled c = c.decimal-count.ensures.digits ∙ decimal_numeral _ _ c.decimal-count.ensures.len
+spelled c = rw c.from.ensures at (c.decimal-count.ensures.digits ∙ decimal_numeral _ _ c.decimal-count.ensures.len)
 
 pub put_text-requires : goal.put_text-requires
 put_text-requires c = omega (arith, ap length (spelled (goal.at.put_text-requires c).After-decimal-count))

@@ -1,0 +1,18 @@
+-- `capi::flourscoop_box_point` meets its contract: it tells what box_cover answers of that point.
+use mathlib.Core.Path.{◌≡◌}
+use borrow.Author.Rules.{rules}
+use Rattle.shape.specs.declared.Shape.TheVariants.{Point}
+use Rattle.calls.specs.Told.{told_cover}
+use Rattle.capi.specs.Faces.{vertex}
+use Rattle.capi.proofs.flourscoop_box_point.Goals as goal
+
+pub returns : goal.returns
+returns c =
+    let a = c.args in
+    let same : c.point.result ≡ Point (vertex a.x1 a.y1) = search rules in
+    record {
+      answer = told_cover c.box_cover.result;
+      says = rw same at c.box_cover.ensures;
+      number_is = c.tell_cover.ensures.number;
+      cover_is = c.tell_cover.ensures.cover;
+    }

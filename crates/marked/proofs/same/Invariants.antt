@@ -1,7 +1,0 @@
--- `same`: each turn leaves one word less to compare.
-use Prim.Native.Nat.{◌-◌}
-use lib.ListN.{length}
-use Rattle.marked.proofs.same.Given as goal
-
-abbrev pub decreases-loop-i : goal.decreases-loop-i
-decreases-loop-i l = length l.pool - l.i

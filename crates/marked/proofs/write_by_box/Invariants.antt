@@ -1,6 +1,0 @@
--- `write_by_box`: each turn leaves one tile less.
-use Prim.Native.Nat.{◌-◌}
-use Rattle.marked.proofs.write_by_box.Given as goal
-
-abbrev pub decreases-loop-t : goal.decreases-loop-t
-decreases-loop-t g l = 8 - l.t

@@ -1,7 +1,8 @@
 #![tactic(auto)]
 // The audit of a pool: whether a slice of words is a sound pool, for any words and any length. It asks nothing of its caller and changes nothing.
 // Each block is marked as it is met, and no chain is followed past a marked block: the time is linear in the room, whatever the words are. These marks are
-// bytes on the stack; the mark of a tile is one of its words.
+// bytes on the stack; the mark of a tile is one of its words. The header goes beside the pool and not with it in one type: what is promised is said of any words
+// and of a header's numbers.
 ghost use Rattle.std.specs.Prelude.{◌≡◌, ℕ, ◌+◌, ◌^◌, ◌<◌, ◌≤◌, length, get_or};
 ghost use Rattle.numbers.specs.Says.{Says};
 ghost use Rattle.pool.specs.Words.{edition, layout_of};
@@ -88,7 +89,8 @@ fn link_of(pool: &[u32], header: Header, block: Block) -> u32
 }
 
 // Walks `left` blocks from `link` on, which hold q entries, and marks each. Answers the link that named the last block, 0 where there is none; or nothing
-// where they are no chain. It stops at a block that is marked already.
+// where they are no chain. It stops at a block that is marked already. 0 and no second
+// Option: it is compared with the word of the tile, which has 0 for none.
 fn walk(
     pool: &[u32],
     marks: &mut [u8],

@@ -218,6 +218,7 @@ pub fn bin_list(pool: &mut [u32], list: &[i32], answers: &mut [u8]) -> Result<()
     Ok(())
 }
 
+// This call and the others on one tile open the audit's answer each for itself, as document 01 has it, and ask for the tile then.
 // Reads the id at a place of a tile's list, places counted from 0: the id and whether the tile is wholly covered; or refuses the pool, the tile or the place,
 // in that order.
 pub fn read(pool: &[u32], tile: Tile, place: u32) -> Result<Found, Refusal>
@@ -354,7 +355,8 @@ fn answer<F: Fn(Shape, Rectangle) -> Cover>(
     Ok(cover(shape, rectangle))
 }
 
-// Whether the tile meets the bounding box of the shape, apart or partly; or refuses the screen, the tile or the shape, in that order.
+// Whether the tile meets the bounding box of the shape, apart or partly; or refuses the screen, the tile or the shape, in that order. It and the next share all
+// but the function that they name.
 pub fn box_cover(screen: Screen, tile: Tile, shape: Shape) -> Result<Cover, Refusal>
     ensures { BoxSays screen tile.0 shape (told_cover result) }
 {

@@ -143,7 +143,7 @@ pub extern "C" fn flourscoop_high_water(pool: &[u32], tile: u32, entries: &mut u
     number_in(&answer)
 }
 
-// Empties a tile's list: 0 and the blocks given back, or 4, 9 in that order.
+// Empties a tile's list: 0 and the blocks given back, or 4, 9 in that order. The C interface has a function for each call, also where two are alike.
 #[unsafe(no_mangle)]
 pub extern "C" fn flourscoop_release(pool: &mut [u32], tile: u32, blocks: &mut u32) -> u32
     ensures { ReleaseSays pool.old tile (released result blocks.new) pool.new }
@@ -367,7 +367,7 @@ pub extern "C" fn flourscoop_bin_pixels_triangle(
     )
 }
 
-// Whether a tile meets the bounding box of a point: 0 and the answer, 1 for yes; or 1, 9, 7 in that order.
+// Whether a tile meets the bounding box of a point: 0 and the answer, 1 for yes; or 1, 9, 7 in that order. By box and by corner are two calls of the interface.
 #[unsafe(no_mangle)]
 pub extern "C" fn flourscoop_box_point(
     width: u32,

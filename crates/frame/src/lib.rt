@@ -13,7 +13,7 @@ use lists::Lists;
 use numbers::{narrow, wide};
 use screen::{Block, Tile};
 
-// Where the entries start that stand in one block, how many they are, and the link to the next block.
+// Where the entries start that stand in one block, how many they are, and the link to the next block, which stays a number as in `lists`.
 #[derive(Clone, Copy)]
 pub struct Stretch {
     pub at: usize,

@@ -94,7 +94,7 @@ fn put_tile(
     put_line(tile, &list[..count], out, at)
 }
 
-// The lines of all tiles of a sound pool with that header. `list` has room for that of any tile.
+// The lines of all tiles of a sound pool with that header, which stays beside the pool as in `calls`. `list` has room for that of any tile.
 fn put_tiles(pool: &[u32], header: Header, list: &mut [u32], out: &mut [u8], at: usize) -> usize
     requires sound { Sound (layout_of pool.now) pool.now }
     requires header_of { HeaderOf (layout_of pool.now) pool.now header }

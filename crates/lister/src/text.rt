@@ -14,7 +14,7 @@ pub fn put_text(text: &[u8], out: &mut [u8], at: usize) -> usize
     end
 }
 
-// The digits of n.
+// The digits of n: those of `io::decimal`, whose contract gives them.
 pub fn put_number(n: u32, out: &mut [u8], at: usize) -> usize
     requires { at + length (numeral n) ≤ length out.old }
     ensures { Puts out.old at (numeral n) out.new result }

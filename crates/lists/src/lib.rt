@@ -56,7 +56,7 @@ impl Lists {
         self.layout.header + TILE_WORDS * self.tiles + self.layout.ids * b + b + k
     }
 
-    // Word i of a tile.
+    // Word i of a tile. It has its function beside `block_word`, since a tile and a block have places of their own.
     fn tile_word(self, pool: &[u32], tile: Tile, i: usize) -> u32
         requires { TileIn (layout_for self.layout) pool.now tile.0 i }
         ensures { result ≡ tile_word (layout_for self.layout) pool.now tile.0 i }
@@ -89,7 +89,7 @@ impl Lists {
         self.tile_word(pool, tile, ENTRIES)
     }
 
-    // The link to the first block of a tile, 0 where its list is empty.
+    // The link to the first block of a tile, 0 where its list is empty. A link stays a number: it is compared with words of the pool, and written back.
     pub fn first(self, pool: &[u32], tile: Tile) -> u32
         requires { Among (layout_for self.layout) pool.now self.tiles tile.0 }
         ensures { result ≡ tile_word (layout_for self.layout) pool.now tile.0 1 }

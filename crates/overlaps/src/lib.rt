@@ -88,7 +88,7 @@ fn with(totals: Totals, grid: Grid, shape: Shape, place: u32, touched: &mut [u32
     with_shape(totals, place, boxed, count)
 }
 
-// The totals of the shapes of a list.
+// The totals of the shapes of a list, by their places, since a place is a part of the answer.
 fn add_up(grid: Grid, list: &[i32], touched: &mut [u32]) -> Totals
     requires { (RightList 7 list.now) × (4096 ≤ length touched.old) }
     ensures { TotalsOf grid.screen (shape_at 7 list.now) (count_of 7 list.now) result }

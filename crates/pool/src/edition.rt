@@ -7,7 +7,7 @@ ghost use Rattle.pool.specs.Words.{is_edition, start, room};
 // A tile has its entries, its first block + 1, its last block + 1 and the most entries since the opening.
 pub const TILE_WORDS: usize = 4;
 
-// An edition that there is: the words of its header, and the ids in a block.
+// An edition that there is: the words of its header, and the ids in a block. Numbers and no cases, since most sums go by them.
 #[derive(Clone, Copy)]
 pub struct Edition {
     pub header: usize,
@@ -45,9 +45,9 @@ impl Edition {
         ensures { result ≡ ceil q self.ids }
     {
         if self.ids == 31 {
-            (q + 30) / 31
+            q.div_ceil(31)
         } else {
-            (q + 62) / 63
+            q.div_ceil(63)
         }
     }
 

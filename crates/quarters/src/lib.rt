@@ -15,7 +15,8 @@ use screen::{Grid, Rectangle, Screen};
 use shape::Shape;
 use touch::{Cover, Figure, Inward, Looked};
 
-// A square of 2^exponent by 2^exponent tiles, by the column and the row of its first.
+// A square of 2^exponent by 2^exponent tiles, by the column and the row of its first. What is asked of it is asked by clauses: definitions make squares of any
+// numbers.
 #[derive(Clone, Copy)]
 struct Square {
     column: u32,

@@ -7,7 +7,7 @@ ghost use Rattle.numbers.specs.Diff.{up};
 ghost use Rattle.screen.specs.Rectangle.{side, near, far, rectangle_at, Meeting};
 ghost use Rattle.screen.specs.Held.{held, rounded_down, rounded_up_less_one};
 
-// The number of a tile.
+// The number of a tile, and that of a block: a type each, as document 01 has it, so that neither is taken for the other.
 #[derive(Clone, Copy)]
 pub struct Tile(pub u32);
 
@@ -93,7 +93,7 @@ pub fn allowed(screen: Screen) -> bool
     true
 }
 
-// How many tiles of 2^s pixels cover an extent: the quotient, rounded up.
+// How many tiles of 2^s pixels cover an extent: the quotient, rounded up. By a shift: a `div_ceil` would divide by a variable.
 fn tiles_across(extent: u32, s: u32) -> u32
     requires { (extent ≤ 4096) × (3 ≤ s) × (s ≤ 6) }
     ensures { (result ≡ across extent s) × (result ≤ 512) }

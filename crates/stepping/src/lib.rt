@@ -200,7 +200,7 @@ fn step_row(grid: Grid, figure: Figure, row: u32, span: Span, above: Span) -> St
 }
 
 // Writes the numbers of the tiles of a run, each with a flag that says whether its column is one of `whole`, from place count on, and answers the place after
-// the last. There is no heap: the list is the caller's, so how far it is filled stands beside it.
+// the last. There is no heap: the list is the caller's, so how far it is filled stands beside it, and goes on from the rows before beside the columns.
 fn append(base: u32, run: Span, whole: Span, list: &mut [u32], count: u32) -> u32
     requires { (run.start ≤ run.end) × (count ≤ base + run.start) × (base + run.end ≤ 4096) × (4096 ≤ length list.old) }
     ensures run { Run (λ k. (run.start ≤ k) × (k < run.end)) base run.start run.end count result (plains list.old) (plains list.new) }

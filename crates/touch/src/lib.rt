@@ -22,7 +22,7 @@ pub struct Three {
     pub c: Vertex,
 }
 
-// A bounding box: from left to right and from top to bottom, all four sides included.
+// A bounding box: from left to right and from top to bottom, all four sides included. It is no `Rectangle`: its sides are coordinates, and definitions make both.
 #[derive(Clone, Copy)]
 pub struct Bounds {
     pub left: i32,
@@ -41,7 +41,7 @@ pub struct Edge {
     pub third: i64,
 }
 
-// The three edges of a shape. It is a type of its own beside `RowEdges` and `Inward`: definitions of four crates name each, and have no short name for an
+// The three edges of a shape. It is a type of its own beside `RowEdges` and `Inward`: definitions of three crates name them, and have no short name for an
 // instance of a generic one.
 #[derive(Clone, Copy)]
 pub struct Edges {
@@ -108,7 +108,8 @@ pub struct Inward {
     pub ca: bool,
 }
 
-// What a look at a rectangle tells: how the shape covers it, and edges that have it on their inner side.
+// What a look at a rectangle tells: how the shape covers it, and edges that have it on their inner side: those that were known, where it is apart. The cover is
+// what is asked first, so that an Option of the edges would say it twice.
 #[derive(Clone, Copy)]
 pub struct Looked {
     pub cover: Cover,

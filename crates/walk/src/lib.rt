@@ -1,6 +1,7 @@
 #![tactic(auto)]
 // The row walk: the tiles that a shape touches, once each, in rising number, with a flag for those that it covers wholly. Row by row in the bounding box, left
-// to right; a row is left after its run of touched tiles. No tile outside the box is tested, and none twice.
+// to right; a row is left after its run of touched tiles. No tile outside the box is tested, and none twice. The grid and the figure stay two values: one grid
+// serves every shape, and definitions take the screen and the edges apart.
 ghost use Rattle.std.specs.Prelude.{List, ℕ, ◌+◌, ◌*◌, ◌≤◌, ◌<◌, length};
 ghost use Rattle.numbers.specs.Flag.{plains};
 ghost use Rattle.numbers.specs.Says.{Says};
@@ -69,7 +70,8 @@ pub fn first_touched(grid: Grid, row: Row, span: Span) -> Start
 }
 
 // Writes the numbers of the tiles in the run that starts with the span, with their flags, from place count on, and answers the place after the last.
-// The count stays beside the list, which is lent: the memory is fixed, and a caller reads the front alone.
+// The count stays beside the list, which is lent: the memory is fixed, and a caller reads the front alone. It goes on from the rows before, and so beside the
+// columns.
 fn append_run(grid: Grid, row: Row, base: u32, span: Span, list: &mut [u32], count: u32) -> u32
     requires in_columns { (span.end ≤ columns grid.screen) × (span.start ≤ span.end) }
     requires count_bound { (count ≤ base + span.start) × (base + span.end ≤ 4096) × (4096 ≤ length list.old) }

@@ -14,15 +14,11 @@ use Rattle.pool.specs.Editions.{layout_for}
 use Rattle.pool.specs.declared.edition.Edition.{Edition}
 use Rattle.pool.specs.Sound.{Opened}
 use Rattle.audit.specs.Answer.{HeaderOf, AuditFinds}
-use Rattle.audit.specs.declared.Header.{Header}
+use Rattle.audit.specs.declared.header.Header.{Header}
 
 -- a layout is that of one edition, and a screen that of one grid
 same_layout : {e f : Edition} → layout_for e ≡ layout_for f → e ≡ f
-same_layout {e} {f} h = λ i. record {
-  header = (h i).header;
-  ids = (h i).ids;
-  known = is_prop→PathP (λ j. is_edition (h j).header (h j).ids ≡ true) (λ j. Bool-set _ _) e.known f.known i;
-}
+same_layout {e} {f} h = λ i. record { header = (h i).header; ids = (h i).ids }
 
 same_grid : {g h : Grid} → g.screen ≡ h.screen → g ≡ h
 same_grid {g} {h} e = λ i. record {
@@ -32,12 +28,13 @@ same_grid {g} {h} e = λ i. record {
 
 -- the words have one header
 pub header_once : {L : Layout} {p : List ℕ} {g h : Header} → HeaderOf L p g → HeaderOf L p h → g ≡ h
-header_once {g = g} {h = h} a b = λ i. record {
-  layout = same_layout {e = g.layout} {f = h.layout} (a.layout ∙ sym b.layout) i;
+header_once {g = g} {h = h} a b = λ i. let l = same_layout {e = g.layout} {f = h.layout} (a.layout ∙ sym b.layout) in record {
+  layout = l i;
   grid = same_grid {g = g.grid} {h = h.grid} (a.screen ∙ sym b.screen) i;
   tiles = (a.tiles ∙ sym b.tiles) i;
   blocks = (a.blocks ∙ sym b.blocks) i;
   start = (a.start ∙ sym b.start) i;
+  known = is_prop→PathP (λ j. is_edition (l j).header (l j).ids ≡ true) (λ j. Bool-set _ _) g.known h.known i;
 }
 
 -- and one answer

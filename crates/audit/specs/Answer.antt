@@ -3,7 +3,7 @@ use Rattle.std.specs.Prelude.{◌≡◌, Option, Some, None, List, ℕ, suc, ◌
 use Rattle.pool.specs.Words.{Layout, layout_of, start, header_word}
 use Rattle.pool.specs.Editions.{layout_for, Sized}
 use Rattle.pool.specs.Sound.{Sound as SoundPool, screen_of, tiles_of, blocks_of}
-use Rattle.audit.specs.declared.Header.{Header}
+use Rattle.audit.specs.declared.header.Header.{Header}
 
 -- the header is that of the words p: the layout, the screen, how many tiles and blocks there are, and where the blocks start
 pub record HeaderOf (L : Layout) (p : List ℕ) (header : Header) : Type 0 where

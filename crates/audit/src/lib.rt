@@ -3,9 +3,9 @@
 // Each block is marked as it is met, and no chain is followed past a marked block: the time is linear in the room, whatever the words are. These marks are
 // bytes on the stack; the mark of a tile is one of its words. The header goes beside the pool and not with it in one type: what is promised is said of any words
 // and of a header's numbers.
-ghost use Rattle.std.specs.Prelude.{◌≡◌, ℕ, ◌+◌, ◌^◌, ◌<◌, ◌≤◌, length, get_or};
+ghost use Rattle.std.specs.Prelude.{◌≡◌, true, ℕ, ◌+◌, ◌^◌, ◌<◌, ◌≤◌, length, get_or};
 ghost use Rattle.numbers.specs.Says.{Says};
-ghost use Rattle.pool.specs.Words.{edition, layout_of};
+ghost use Rattle.pool.specs.Words.{is_edition, edition, layout_of};
 ghost use Rattle.pool.specs.Editions.{layout_for};
 ghost use Rattle.pool.specs.State.{times};
 ghost use Rattle.pool.specs.Sound.{screen_of, Opened};
@@ -17,15 +17,9 @@ use numbers::wide;
 use pool::{ENTRY_LIMIT, Edition, MOST_BLOCKS, POISON, TILE_WORDS};
 use screen::{Block, Grid, Screen, Tile};
 
-// What the header of a sound pool says: the layout, the grid, how many tiles and blocks there are, and where the blocks start.
-#[derive(Clone, Copy)]
-pub struct Header {
-    pub layout: Edition,
-    pub grid: Grid,
-    pub tiles: u32,
-    pub blocks: u32,
-    pub start: usize,
-}
+mod header;
+
+pub use header::Header;
 
 // Whether all words are entries. All of them are looked at: without an early end the loop is compiled to vectors.
 fn all_entries(words: &[u32]) -> bool
@@ -226,7 +220,7 @@ fn screen_of(pool: &[u32]) -> Screen
 
 // The header of a pool whose screen is within the rules.
 fn header_of(pool: &[u32], layout: Edition, grid: Grid) -> Header
-    requires { (8 ≤ length pool.now) × (grid.screen ≡ screen_of pool.now) }
+    requires { (8 ≤ length pool.now) × (grid.screen ≡ screen_of pool.now) × (is_edition layout.header layout.ids ≡ true) }
     ensures { HeaderOf (layout_for layout) pool.now result }
 {
     let tiles = grid.tiles();
@@ -241,7 +235,7 @@ fn header_of(pool: &[u32], layout: Edition, grid: Grid) -> Header
 
 // Whether words 8 and 9, where the header has them, are the words of a block and 0.
 fn rest_right(pool: &[u32], layout: Edition) -> bool
-    requires { layout.header ≤ length pool.now }
+    requires { (is_edition layout.header layout.ids ≡ true) × (layout.header ≤ length pool.now) }
     ensures { Says result (RestRight (layout_for layout) pool.now) }
 {
     if layout.header == 8 {
@@ -278,6 +272,7 @@ fn opened(pool: &[u32], header: Header) -> bool
 
 // Whether a slice is a sound pool of a layout, and what its header says if it is.
 fn audit_as(pool: &[u32], layout: Edition) -> Option<Header>
+    requires { is_edition layout.header layout.ids ≡ true }
     ensures { Finds (layout_for layout) pool.now result }
 {
     if pool.len() < layout.header {
@@ -300,7 +295,7 @@ fn audit_as(pool: &[u32], layout: Edition) -> Option<Header>
 // The layout that the words say: word 6 tells the editions apart, and word 8, if there is one, the block sizes.
 fn edition_of(pool: &[u32]) -> Edition
     requires { 8 ≤ length pool.now }
-    ensures { layout_for result ≡ layout_of pool.now }
+    ensures { (is_edition result.header result.ids ≡ true) × (layout_for result ≡ layout_of pool.now) }
 {
     let size = pool.get(8).copied().unwrap_or(0);
     match (pool[6], size) {

@@ -8,7 +8,7 @@ use Rattle.pool.specs.Words.{Layout, layout_of, tile_word}
 use Rattle.pool.specs.Editions.{layout_for, Sized}
 use Rattle.pool.specs.Sound.{Sound, tiles_of}
 use Rattle.pool.proofs.Editions.{layout_known, known_fair}
-use Rattle.audit.specs.declared.Header.{Header}
+use Rattle.audit.specs.declared.header.Header.{Header}
 use Rattle.audit.specs.Answer.{HeaderOf, AuditFinds}
 use Rattle.lists.specs.declared.Lists.{Lists}
 use Rattle.lists.proofs.Named.{list_length}

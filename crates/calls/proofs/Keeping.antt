@@ -15,7 +15,7 @@ use Rattle.pool.specs.State.{State}
 use Rattle.pool.specs.Sound.{Sound, screen_of, tiles_of, blocks_of}
 use Rattle.pool.proofs.Header.{keeps-screen, keeps_blocks}
 use Rattle.pool.proofs.Editions.{layout_known, layout_fair, known_limit, keeps_layout}
-use Rattle.audit.specs.declared.Header.{Header}
+use Rattle.audit.specs.declared.header.Header.{Header}
 use Rattle.audit.specs.Answer.{HeaderOf}
 use Rattle.lists.specs.Appending.{need, append_all}
 use Rattle.lists.specs.Promises.{Kept, Appended}

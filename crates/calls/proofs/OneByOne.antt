@@ -11,7 +11,7 @@ use Rattle.numbers.specs.declared.Refusal.{Refusal}
 use Rattle.numbers.specs.Refusal.{number_in}
 use Rattle.shape.specs.declared.Shape.{Shape}
 use Rattle.shapes.specs.Shapes.{shape_at}
-use Rattle.audit.specs.declared.Header.{Header}
+use Rattle.audit.specs.declared.header.Header.{Header}
 use Rattle.calls.specs.declared.Binned as bin
 use Rattle.calls.specs.Told.{told_bin}
 use Rattle.calls.specs.Tables.{BinSays}

@@ -17,7 +17,7 @@ use Rattle.walk.specs.Lists.{Flagged}
 use Rattle.pool.specs.Words.{layout_of}
 use Rattle.pool.specs.Editions.{layout_for}
 use Rattle.pool.specs.Sound.{Sound, screen_of, tiles_of}
-use Rattle.audit.specs.declared.Header.{Header}
+use Rattle.audit.specs.declared.header.Header.{Header}
 use Rattle.audit.specs.Answer.{HeaderOf}
 use Rattle.lists.specs.declared.Lists.{Lists}
 use Rattle.lists.specs.Appending.{Gained, Distinct}

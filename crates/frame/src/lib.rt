@@ -2,7 +2,7 @@
 // The lists of a sound pool, read as a whole: one tile's, or all of them one after the other, and how many entries they have together. A chain is followed by
 // stretches: the entries of a list that stand in one block, side by side.
 ghost use Rattle.std.specs.Prelude.{◌≡◌, ◌+◌, ◌-◌, ◌<◌, ◌≤◌, length, take, drop};
-ghost use Rattle.pool.specs.Editions.{layout_for};
+ghost use Rattle.pool.specs.Editions.{layout_for, Sized};
 ghost use Rattle.pool.specs.Sound.{Sound, tiles_of};
 ghost use Rattle.pool.specs.Lists.{list_of};
 ghost use Rattle.pool.specs.Written.{written, Puts};
@@ -109,7 +109,7 @@ pub fn put_list(pool: &[u32], lists: Lists, tile: Tile, list: &mut [u32], at: us
 
 // How many entries the lists of all tiles have together.
 pub fn total_entries(pool: &[u32], lists: Lists) -> u32
-    requires { (Sound (layout_for lists.layout) pool.now) × (lists.tiles ≡ tiles_of pool.now) }
+    requires { (Sound (layout_for lists.layout) pool.now) × (Sized (layout_for lists.layout)) × (lists.tiles ≡ tiles_of pool.now) }
     ensures { result ≡ length (lists_of (layout_for lists.layout) lists.tiles pool.now lists.tiles) }
 {
     let mut total = 0;
@@ -121,7 +121,7 @@ pub fn total_entries(pool: &[u32], lists: Lists) -> u32
 
 // Puts the lists of all tiles at the start of `entries`, one after the other, and where each of them starts, and where the last one ends, at that of `starts`.
 pub fn put_lists(pool: &[u32], lists: Lists, starts: &mut [u32], entries: &mut [u32])
-    requires sound { (Sound (layout_for lists.layout) pool.now) × (lists.tiles ≡ tiles_of pool.now) × (lists.tiles < length starts.old) }
+    requires sound { (Sound (layout_for lists.layout) pool.now) × (Sized (layout_for lists.layout)) × (lists.tiles ≡ tiles_of pool.now) × (lists.tiles < length starts.old) }
     requires tiles_in_bounds { length (lists_of (layout_for lists.layout) lists.tiles pool.now lists.tiles) ≤ length entries.old }
     ensures starts { starts.new ≡ written starts.old 0 (starts_of (layout_for lists.layout) lists.tiles pool.now) }
     ensures entries { entries.new ≡ written entries.old 0 (lists_of (layout_for lists.layout) lists.tiles pool.now lists.tiles) }

@@ -6,7 +6,7 @@ ghost use Rattle.std.specs.Prelude.{◌≡◌, [], ◌∷◌, ◌+◌, ◌*◌, 
 ghost use Rattle.numbers.specs.Ceil.{ceil};
 ghost use Rattle.numbers.specs.Flag.{plains};
 ghost use Rattle.pool.specs.Words.{start, header_word, tile_word, block_word};
-ghost use Rattle.pool.specs.Editions.{layout_for};
+ghost use Rattle.pool.specs.Editions.{layout_for, Sized};
 ghost use Rattle.pool.specs.Sound.{Sound};
 ghost use Rattle.pool.specs.Lists.{list_of};
 ghost use Rattle.lists.specs.Appending.{need, append, counted, append_in, take_head, take_block, append_named};
@@ -74,7 +74,7 @@ impl Lists {
 
     // How many blocks are free.
     pub fn free(self, pool: &[u32]) -> u32
-        requires { Sound (layout_for self.layout) pool.now }
+        requires { (Sound (layout_for self.layout) pool.now) × Sized (layout_for self.layout) }
         ensures { result ≡ header_word pool.now 4 }
     {
         pool[FREE]
@@ -143,7 +143,7 @@ impl Lists {
 
     // A block, the head of the free chain, leaves it.
     fn take_head(self, pool: &mut [u32], block: Block)
-        requires { BlockIn (layout_for self.layout) self.tiles pool.old block.0 (layout_for self.layout).ids × (0 < header_word pool.old 4) }
+        requires { BlockIn (layout_for self.layout) self.tiles pool.old block.0 (layout_for self.layout).ids × (0 < header_word pool.old 4) × Sized (layout_for self.layout) }
         ensures { pool.new ≡ take_head (layout_for self.layout) self.tiles pool.old block.0 }
     {
         let link = self.block_index(block, self.layout.ids);
@@ -208,7 +208,7 @@ impl Lists {
 
     // Poison in all of them. Both counts are constants.
     fn poison(self, pool: &mut [u32], block: Block)
-        requires { BlockIn (layout_for self.layout) self.tiles pool.old block.0 (layout_for self.layout).ids }
+        requires { BlockIn (layout_for self.layout) self.tiles pool.old block.0 (layout_for self.layout).ids × Sized (layout_for self.layout) }
         ensures { pool.new ≡ fill (layout_for self.layout) self.tiles pool.old block.0 (layout_for self.layout).ids }
     {
         if self.layout.ids == 31 {

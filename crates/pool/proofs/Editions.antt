@@ -9,7 +9,7 @@ use borrow.Author.Tests.{eq-eqb, eqb-true, ne_eqb}
 use lib.Dec.{eqb}
 use Rattle.std.proofs.lemmas.Bool.{false≢true}
 use Rattle.numbers.proofs.Ceil.{eq_or_ne}
-use Rattle.pool.specs.Words.{Layout, edition, second, Known, one, two_32, two_64, layout_of, Fair, header_word}
+use Rattle.pool.specs.Words.{Layout, is_edition, edition, second, Known, one, two_32, two_64, layout_of, Fair, header_word}
 use Rattle.pool.specs.declared.edition.Edition.{Edition}
 use Rattle.pool.specs.Editions.{layout_for, Sized}
 use Rattle.pool.specs.Sound.{Opened}
@@ -66,23 +66,23 @@ known_as {L} e t l p k h i =
     let same : layout_for e ≡ L = λ j. record { header = h j; tile = sym t j; ids = i j; limit = sym l j; poison = sym p j } in
     subst Known (sym same) k
 
-pub known : (e : Edition) → Known (layout_for e)
-known e =
+pub known : (e : Edition) → is_edition e.header e.ids ≡ true → Known (layout_for e)
+known e there_is =
     ⊎_elim
     (λ (h : e.header ≡ 8).
-    known_as e refl refl refl one h (eqb-true e.ids 31 (rw h at e.known)))
+    known_as e refl refl refl one h (eqb-true e.ids 31 (rw h at there_is)))
     (λ (n : e.header ≢ 8).
     ⊎_elim
     (λ (h : e.header ≡ 10).
     ⊎_elim (λ (i : e.ids ≡ 31). known_as e refl refl refl two_32 h i)
-    (λ (m : e.ids ≢ 31). known_as e refl refl refl two_64 h (eqb-true e.ids 63 (rw (h, ne_eqb e.ids 31 m) at e.known)))
+    (λ (m : e.ids ≢ 31). known_as e refl refl refl two_64 h (eqb-true e.ids 63 (rw (h, ne_eqb e.ids 31 m) at there_is)))
     (eq_or_ne e.ids 31))
-    (λ (m : e.header ≢ 10). absurd (false≢true (rw (ne_eqb e.header 8 n, ne_eqb e.header 10 m) at e.known)))
+    (λ (m : e.header ≢ 10). absurd (false≢true (rw (ne_eqb e.header 8 n, ne_eqb e.header 10 m) at there_is)))
     (eq_or_ne e.header 10))
     (eq_or_ne e.header 8)
 
-pub sized : (e : Edition) → Sized (layout_for e)
-sized e = known_sized (known e)
+pub sized : (e : Edition) → is_edition e.header e.ids ≡ true → Sized (layout_for e)
+sized e there_is = known_sized (known e there_is)
 
 -- of which a header that has not eight words has ten, and a block that has not 31 ids has 63
 pub ten : {L : Layout} → Sized L → L.header ≢ 8 → L.header ≡ 10

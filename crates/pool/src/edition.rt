@@ -1,23 +1,22 @@
 #![tactic(auto)]
 // What differs from one edition of the pool to another, and the sums that go by it.
-ghost use Rattle.std.specs.Prelude.{◌≡◌, true, ◌%◌, ◌^◌, ◌<◌, ◌≤◌};
+ghost use Rattle.std.specs.Prelude.{◌≡◌, ◌%◌, ◌^◌, ◌<◌, ◌≤◌};
 ghost use Rattle.numbers.specs.Ceil.{ceil};
-ghost use Rattle.pool.specs.Words.{is_edition, start, room};
+ghost use Rattle.pool.specs.Words.{start, room};
+ghost use Rattle.pool.specs.Editions.{layout_for, Sized};
 
 // A tile has its entries, its first block + 1, its last block + 1 and the most entries since the opening.
 pub const TILE_WORDS: usize = 4;
 
-// An edition that there is: the words of its header, and the ids in a block. Numbers and no cases, since most sums go by them.
+// What differs from one edition to another: the words of the header, and the ids in a block. Numbers and no cases, since most sums go by them; and no fact,
+// since `lists` says where the words stand whatever these numbers are. That they are of an edition that there is, the audit's header carries.
 #[derive(Clone, Copy)]
 pub struct Edition {
     pub header: usize,
     pub ids: usize,
-    pub ghost known: { is_edition header ids ≡ true },
 }
 
 impl Edition {
-    ghost use Rattle.pool.specs.Editions.{layout_for};
-
     // The first edition.
     pub const ONE: Edition = Edition { header: 8, ids: 31 };
 
@@ -34,6 +33,7 @@ impl Edition {
 
     // What q leaves by the ids of a block. Both divisors are constants.
     pub fn remainder(self, q: usize) -> usize
+        requires { Sized (layout_for self) }
         ensures { result ≡ q % self.ids }
     {
         if self.ids == 31 { q % 31 } else { q % 63 }
@@ -41,7 +41,7 @@ impl Edition {
 
     // How many blocks q entries take. Both divisors are constants.
     pub fn blocks_for(self, q: usize) -> usize
-        requires { q < 2 ^ 32 }
+        requires { (Sized (layout_for self)) × (q < 2 ^ 32) }
         ensures { result ≡ ceil q self.ids }
     {
         if self.ids == 31 {
@@ -53,7 +53,7 @@ impl Edition {
 
     // Where the blocks start, after so many tiles.
     pub fn start(self, tiles: usize) -> usize
-        requires { tiles ≤ 4096 }
+        requires { (Sized (layout_for self)) × (tiles ≤ 4096) }
         ensures { result ≡ start (layout_for self) tiles }
     {
         self.header + TILE_WORDS * tiles
@@ -61,7 +61,7 @@ impl Edition {
 
     // The room that so many tiles and blocks need.
     pub fn room(self, tiles: usize, blocks: usize) -> usize
-        requires { (tiles ≤ 4096) × (blocks ≤ 2048) }
+        requires { (Sized (layout_for self)) × (tiles ≤ 4096) × (blocks ≤ 2048) }
         ensures { result ≡ room (layout_for self) tiles blocks }
     {
         self.start(tiles) + self.ids * blocks + blocks

@@ -3,11 +3,11 @@
 ghost use Rattle.std.specs.Prelude.{◌≡◌, suc, ◌+◌, ◌*◌, ◌<◌, ◌≤◌, length, replicate};
 ghost use Rattle.numbers.specs.Refusal.{number_in};
 ghost use Rattle.screen.specs.Screen.{tiles};
-ghost use Rattle.pool.specs.Words.{edition, second, start, room};
+ghost use Rattle.pool.specs.Words.{edition, second, Known, start, room};
 ghost use Rattle.pool.specs.State.{link_to};
 ghost use Rattle.pool.specs.Opening.{rising, header_rest, header_for, free_block, free_blocks, opening, OpenSays};
 ghost use Rattle.pool.specs.Written.{written};
-ghost use Rattle.pool.specs.Editions.{layout_for};
+ghost use Rattle.pool.specs.Editions.{layout_for, Sized};
 
 use numbers::{Refusal, narrow, wide};
 use screen::{Block, Grid, Screen};
@@ -44,7 +44,7 @@ fn rising_link(block: Block, count: u32) -> u32
 
 // What the header has after eight words.
 fn write_rest(pool: &mut [u32], layout: Edition)
-    requires { layout.header ≤ length pool.old }
+    requires { (Sized (layout_for layout)) × (layout.header ≤ length pool.old) }
     ensures { pool.new ≡ written pool.old 8 (header_rest (layout_for layout)) }
 {
     if layout.header == 8 {
@@ -56,7 +56,7 @@ fn write_rest(pool: &mut [u32], layout: Edition)
 
 // The header of a pool in which every block is free, with its blocks from a place on.
 fn write_header(pool: &mut [u32], layout: Edition, grid: Grid, blocks: u32, from: usize)
-    requires { (layout.header ≤ length pool.old) × (from ≡ start (layout_for layout) (tiles grid.screen)) }
+    requires { (Sized (layout_for layout)) × (layout.header ≤ length pool.old) × (from ≡ start (layout_for layout) (tiles grid.screen)) }
     ensures { pool.new ≡ written pool.old 0 (header_for (layout_for layout) grid.screen blocks) }
 {
     let Screen { width, height, s } = grid.screen;
@@ -94,7 +94,7 @@ fn free_blocks(pool: &mut [u32], layout: Edition, from: usize, blocks: u32)
 
 // The same. The ids in a block are a constant either way.
 fn write_blocks(pool: &mut [u32], layout: Edition, from: usize, blocks: u32)
-    requires { (blocks ≤ 2048) × (from + suc layout.ids * blocks ≤ length pool.old) }
+    requires { (Sized (layout_for layout)) × (blocks ≤ 2048) × (from + suc layout.ids * blocks ≤ length pool.old) }
     ensures { pool.new ≡ written pool.old from (free_blocks (layout_for layout) 0 blocks) }
 {
     let header = layout.header;
@@ -107,7 +107,7 @@ fn write_blocks(pool: &mut [u32], layout: Edition, from: usize, blocks: u32)
 
 // The words of an accepted opening, in a slice with room for them.
 fn write_opening(pool: &mut [u32], layout: Edition, grid: Grid, blocks: u32)
-    requires { (blocks ≤ 2048) × (room (layout_for layout) (tiles grid.screen) blocks ≤ length pool.old) }
+    requires { (Known (layout_for layout)) × (blocks ≤ 2048) × (room (layout_for layout) (tiles grid.screen) blocks ≤ length pool.old) }
     ensures { pool.new ≡ opening (layout_for layout) grid.screen blocks pool.old }
 {
     let count = wide(grid.tiles());
@@ -117,8 +117,9 @@ fn write_opening(pool: &mut [u32], layout: Edition, grid: Grid, blocks: u32)
     write_blocks(pool, layout, from, blocks);
 }
 
-// Opens a pool of a layout, and answers as `open` does.
+// Opens a pool of a layout that there is, and answers as `open` does.
 fn open_as(pool: &mut [u32], layout: Edition, screen: Screen, blocks: u32) -> Result<(), Refusal>
+    requires { Known (layout_for layout) }
     ensures { OpenSays (layout_for layout) pool.old screen blocks (number_in result) pool.new }
 {
     if !screen::allowed(screen) {

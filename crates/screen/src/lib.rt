@@ -46,15 +46,14 @@ pub struct Span {
     pub end: u32,
 }
 
-// Tiles of 2^s pixels along an axis of that many pixels.
+// Tiles of 2^s pixels along an axis of that many pixels. An axis by itself may have none.
 #[derive(Clone, Copy)]
-struct Axis {
-    extent: u32,
-    s: u32,
-    ghost least_extent: { 1 ≤ extent },
-    ghost most_extent: { extent ≤ 4096 },
-    ghost least_s: { 3 ≤ s },
-    ghost most_s: { s ≤ 6 },
+pub struct Axis {
+    pub extent: u32,
+    pub s: u32,
+    pub ghost most_extent: { extent ≤ 4096 },
+    pub ghost least_s: { 3 ≤ s },
+    pub ghost most_s: { s ≤ 6 },
 }
 
 const MOST_PIXELS: u32 = 4096;
@@ -155,7 +154,7 @@ impl Axis {
     }
 
     // Where tile k begins.
-    fn near(self, k: u32) -> i64
+    pub fn near(self, k: u32) -> i64
         requires { k < across self.extent self.s }
         ensures { result ≡ near self.extent self.s k }
     {
@@ -163,7 +162,7 @@ impl Axis {
     }
 
     // Where tile k ends.
-    fn far(self, k: u32) -> i64
+    pub fn far(self, k: u32) -> i64
         requires { k < across self.extent self.s }
         ensures { result ≡ far self.extent self.s k }
     {
@@ -189,7 +188,7 @@ impl Axis {
     }
 
     // The tiles that meet the closed interval from low to high.
-    fn meeting(self, low: i32, high: i32) -> Span
+    pub fn meeting(self, low: i32, high: i32) -> Span
         requires { (negsuc 262143 ≤ℤ high) × (high ≤ℤ pos 262143) }
         ensures { Meeting self.extent self.s low high result }
     {
@@ -202,16 +201,17 @@ impl Axis {
         Span { start, end }
     }
 
-    // The tile at x sides, rounded down, held to the grid.
-    fn rounded_down(self, x: i32) -> u32
+    // The tile at x sides, rounded down, held to the tiles, of which there is one.
+    pub fn rounded_down(self, x: i32) -> u32
+        requires { 1 ≤ self.extent }
         ensures { result ≡ rounded_down self.extent self.s x }
     {
         held_to(self.tiles(), self.sides_in(positive(x)))
     }
 
-    // The tile at x sides, rounded up, less one, held to the grid.
-    fn rounded_up_less_one(self, x: i32) -> u32
-        requires { x ≤ℤ pos 262143 }
+    // The tile at x sides, rounded up, less one, held likewise.
+    pub fn rounded_up_less_one(self, x: i32) -> u32
+        requires { (1 ≤ self.extent) × (x ≤ℤ pos 262143) }
         ensures { result ≡ rounded_up_less_one self.extent self.s x }
     {
         let up = self.sides_in(positive(x) + (self.side() - 1));

@@ -11,4 +11,4 @@ unfolding room start
 returns-then-pool-lt8 c = λ s. omega (arith, s.opened.long, (layout_fair c.args.pool.now).header>, c.if-pool-lt8.true)
 
 pub returns : goal.returns
-returns c = subst (λ (L : Layout). Finds L c.args.pool.now c.audit_as.result) c.edition_of.ensures c.audit_as.ensures
+returns c = subst (λ (L : Layout). Finds L c.args.pool.now c.audit_as.result) c.edition_of.ensures.1 c.audit_as.ensures

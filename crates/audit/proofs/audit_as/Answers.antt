@@ -8,7 +8,7 @@ use Rattle.pool.specs.Sound.{Opened, Sound as SoundPool}
 use Rattle.pool.specs.Editions.{layout_for}
 use Rattle.pool.proofs.Editions.{sized}
 use Rattle.audit.specs.Answer.{HeaderOf}
-use Rattle.audit.specs.declared.Header.{Header}
+use Rattle.audit.specs.declared.header.Header.{Header}
 use Rattle.audit.proofs.Answers.{header_fits}
 use Rattle.audit.proofs.Whole.{sound_right, right_sound}
 use Rattle.audit.proofs.audit_as.Goals as goal
@@ -32,13 +32,13 @@ unfolding room start
 returns-then-pool-layout c = λ s. omega (arith, s.opened.long)
 
 pub screen_of-screen-requires : goal.screen_of-screen-requires
-screen_of-screen-requires c = omega (arith, (sized c.args.layout).fair.header>)
+screen_of-screen-requires c = omega (arith, (sized c.args.layout c.requires).fair.header>)
 
 pub returns-then-not-allowed : goal.returns-then-not-allowed
 returns-then-not-allowed c = λ s. c.allowed.ensures.no c.if-not-allowed.true (rw c.screen_of-screen.ensures s.opened.screen)
 
 pub header_of-header-requires : goal.header_of-header-requires
-header_of-header-requires c = (omega (arith, (sized c.args.layout).fair.header>), c.screen_of-screen.ensures)
+header_of-header-requires c = (omega (arith, (sized c.args.layout c.requires).fair.header>), c.screen_of-screen.ensures, c.requires)
 
 pub opened-requires : goal.opened-requires
 opened-requires c =
@@ -53,7 +53,7 @@ unfolding room start
 chains_right-requires c =
     let o = c.opened.ensures.yes c.if-not-opened.false in
     let h = header_fits o (own c.header_of-header.ensures) in
-    (omega (arith, (sized c.args.layout).fair.header>), omega (arith, h), omega (arith, h), omega (arith, o, h))
+    (omega (arith, (sized c.args.layout c.requires).fair.header>), omega (arith, h), omega (arith, h), omega (arith, o, h))
 
 pub returns-then-not-chains_right : goal.returns-then-not-chains_right
 returns-then-not-chains_right c = λ sound.
@@ -61,7 +61,7 @@ returns-then-not-chains_right c = λ sound.
     let h = own a in
     let e = c.header_of-header.result.layout in
     c.chains_right.ensures.no c.if-not-chains_right.true
-    (right_sound (layout_for e) (sized e).fair.ids> c.args.pool.now h.start h.blocks h.tiles (own-sound a sound))
+    (right_sound (layout_for e) (sized e c.header_of-header.result.known).fair.ids> c.args.pool.now h.start h.blocks h.tiles (own-sound a sound))
 
 pub returns : goal.returns
 returns c =
@@ -69,7 +69,7 @@ returns c =
     let h = own a in
     let e = c.header_of-header.result.layout in (
       of-own a
-          (sound_right (layout_for e) (sized e).fair.ids> c.args.pool.now h.start h.blocks h.tiles (c.opened.ensures.yes c.if-not-opened.false)
+          (sound_right (layout_for e) (sized e c.header_of-header.result.known).fair.ids> c.args.pool.now h.start h.blocks h.tiles (c.opened.ensures.yes c.if-not-opened.false)
           (c.chains_right.ensures.yes c.if-not-chains_right.false)),
       a,
     )

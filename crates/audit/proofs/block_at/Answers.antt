@@ -12,7 +12,7 @@ of-32 c = let b = c.args.block.0 in omega (arith, ap (λ (n : ℕ). suc n * b) c
 
 of-64 : (c : Else-header-eq31) → suc c.args.header.layout.ids * c.args.block.0 ≡ 64 * c.wide-b.result
 of-64 c =
-    omega (arith, ap (λ (n : ℕ). suc n * c.args.block.0) (sixty_three (sized c.args.header.layout) c.if-header-eq31.false), c.wide-b.ensures)
+    omega (arith, ap (λ (n : ℕ). suc n * c.args.block.0) (sixty_three (sized c.args.header.layout c.args.header.known) c.if-header-eq31.false), c.wide-b.ensures)
 
 pub overflow_add-result : goal.overflow_add-result
 overflow_add-result c = omega (arith, of-32 (goal.at.overflow_add-result c).Then-header-eq31, c.requires)

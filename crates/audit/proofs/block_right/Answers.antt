@@ -32,7 +32,7 @@ inside c = omega (arith, c.block_at-at.ensures, c.requires.0)
 pub poison_in-requires : goal.poison_in-requires
 poison_in-requires c =
     let long = inside (goal.at.poison_in-requires c).After-block_at-at in
-    omega (arith, part-length c.args.pool.now c.block_at-at.result (c.args.header.layout.ids + 1) long, (sized c.args.header.layout).ids≤)
+    omega (arith, part-length c.args.pool.now c.block_at-at.result (c.args.header.layout.ids + 1) long, (sized c.args.header.layout c.args.header.known).ids≤)
 
 pub overflow_sub-poison_in : goal.overflow_sub-poison_in
 overflow_sub-poison_in c =

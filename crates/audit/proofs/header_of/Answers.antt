@@ -14,14 +14,14 @@ tiles-are : (c : After-tiles-tiles) → c.tiles-tiles.result ≡ tiles_of c.args
 tiles-are c = c.tiles-tiles.ensures ∙ ap tiles c.requires.1
 
 pub start-requires : goal.start-requires
-start-requires c = omega (arith, c.args.grid.allowed.tiles≤)
+start-requires c = (sized c.args.layout c.requires.2, omega (arith, c.args.grid.allowed.tiles≤))
 
 pub returns : goal.returns
 unfolding header_word
 returns c =
     record {
       layout = refl;
-      sized = sized c.args.layout;
+      sized = sized c.args.layout c.requires.2;
       screen = c.requires.1;
       tiles = tiles-are (goal.at.returns c).After-tiles-tiles;
       blocks = refl;

@@ -20,7 +20,7 @@ pub overflow_mul-result : goal.overflow_mul-result
 overflow_mul-result c =
     let h : c.wide-3.result ≤ 4294967295 = omega arith in
     let w : c.args.header.layout.ids * c.wide-3.result ≤ c.args.header.layout.ids * 4294967295 = mul-le-mul_left c.args.header.layout.ids h in
-    omega (arith, w, (sized c.args.header.layout).ids≤)
+    omega (arith, w, (sized c.args.header.layout c.args.header.known).ids≤)
 
 pub returns : goal.returns
 returns c =

@@ -5,6 +5,7 @@ use Rattle.numbers.proofs.Says.{says_yes, says_no}
 use Rattle.screen.specs.Screen.{Allowed}
 use Rattle.pool.specs.Words.{room, header_word}
 use Rattle.pool.specs.Editions.{layout_for}
+use Rattle.pool.proofs.Editions.{sized}
 use Rattle.pool.specs.Sound.{screen_of, tiles_of, blocks_of}
 use Rattle.audit.proofs.opened.Goals as goal
 use Rattle.audit.proofs.opened.Goals.{After-room, Start}
@@ -31,13 +32,13 @@ unfolding header_word
 returns-then-wide-header-2 c = says_no (λ o. omega arith)
 
 pub rest_right-requires : goal.rest_right-requires
-rest_right-requires c = c.requires.0
+rest_right-requires c = (c.args.header.known, c.requires.0)
 
 pub returns-then-not-rest_right : goal.returns-then-not-rest_right
 returns-then-not-rest_right c = says_no (λ o. c.rest_right.ensures.no c.if-not-rest_right.true (record { size = o.size_at; zero = o.zero_at }))
 
 pub room-requires : goal.room-requires
-room-requires c = (omega (arith, (screened (goal.at.room-requires c).Start).tiles≤), omega arith)
+room-requires c = (sized c.args.header.layout c.args.header.known, omega (arith, (screened (goal.at.room-requires c).Start).tiles≤), omega arith)
 
 pub returns-then-pool-room : goal.returns-then-pool-room
 returns-then-pool-room c = says_no (λ o. omega (arith, needed (goal.at.returns-then-pool-room c).After-room, o.long))

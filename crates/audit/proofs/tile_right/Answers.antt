@@ -53,12 +53,12 @@ pub returns-then-q-eq0 : goal.returns-then-q-eq0
 returns-then-q-eq0 c =
     let a = c.args in
     let L = layout_for a.header.layout in
-    empty_right L a.pool.now a.header.start a.header.blocks a.tile.0 (sized c.args.header.layout).fair.ids> (omega (arith, entries (goal.at.returns-then-q-eq0 c).After-wide-q, c.if-q-eq0.true)) a.marks.now
+    empty_right L a.pool.now a.header.start a.header.blocks a.tile.0 (sized c.args.header.layout c.args.header.known).fair.ids> (omega (arith, entries (goal.at.returns-then-q-eq0 c).After-wide-q, c.if-q-eq0.true)) a.marks.now
     (says_and (is_zero L a.pool.now c.wide.ensures 1) (is_zero L a.pool.now c.wide.ensures 2))
     (c.mark_right.ensures.yes c.if-not-mark_right.false)
 
 pub blocks_for-steps-requires : goal.blocks_for-steps-requires
-blocks_for-steps-requires c = omega (arith, c.type_inv.pool (tile_start (layout_for c.args.header.layout) c.wide.result))
+blocks_for-steps-requires c = (sized c.args.header.layout c.args.header.known, omega (arith, c.type_inv.pool (tile_start (layout_for c.args.header.layout) c.wide.result)))
 
 pub returns-in_default : goal.returns-in_default
 returns-in_default c = passes_no (λ h apart. (rw c.in_default.is at (told (goal.at.returns-in_default c).After-walk)) h.run apart)

@@ -3,7 +3,6 @@ use mathlib.Core.Path.{refl}
 use Prim.Native.Nat.{◌+◌, ◌^◌, ◌<◌}
 use native.Mathlib.Omega.{arith}
 use Rattle.pool.specs.Editions.{layout_for}
-use Rattle.pool.proofs.Editions.{sized}
 use Rattle.pool.proofs.Putting.{puts_long}
 use Rattle.frame.proofs.Lists.{frame_none, frame-next, frame_all, lists_longer, lists_grow, lists_fit}
 use Rattle.frame.proofs.put_lists.Goals as goal
@@ -12,7 +11,7 @@ use Rattle.frame.proofs.put_lists.Goals.{At-loop-t}
 -- the place of the next list fits a word
 place-fits : (l : At-loop-t) → l.loop-t.next < 2 ^ 32
 place-fits l =
-    omega (arith, l.loop-t.invariant.listed.next_is, lists_fit l.requires.sound.0 (sized l.args.lists.layout) l.requires.sound.1 l.loop-t.t l.loop-t.invariant.upto)
+    omega (arith, l.loop-t.invariant.listed.next_is, lists_fit l.requires.sound.0 l.requires.sound.1 l.requires.sound.2 l.loop-t.t l.loop-t.invariant.upto)
 
 pub loop-t-init : goal.loop-t-init
 loop-t-init c = frame_none

@@ -4,7 +4,6 @@ use Prim.Native.Nat.{◌+◌, ◌<◌}
 use native.Mathlib.Omega.{arith}
 use lib.ListN.{length}
 use Rattle.pool.specs.Editions.{layout_for}
-use Rattle.pool.proofs.Editions.{sized}
 use Rattle.frame.specs.Frame.{lists_of}
 use Rattle.frame.proofs.Lists.{lists_longer, lists_fit}
 use Rattle.frame.proofs.total_entries.Goals as goal
@@ -20,4 +19,4 @@ with-next c =
 pub overflow_add-total : goal.overflow_add-total
 overflow_add-total c =
     let h : c.loop-t.t < c.args.lists.tiles = omega (arith, c.loop-t-test.true, c.narrow-t-end.ensures) in
-    omega (arith, with-next (goal.at.overflow_add-total c).After-entries-total, lists_fit c.requires.0 (sized c.args.lists.layout) c.requires.1 (c.loop-t.t + 1) (omega arith))
+    omega (arith, with-next (goal.at.overflow_add-total c).After-entries-total, lists_fit c.requires.0 c.requires.1 c.requires.2 (c.loop-t.t + 1) (omega arith))

@@ -6,7 +6,7 @@ use Rattle.screen.specs.Screen.{tiles}
 use Rattle.pool.specs.Words.{room}
 use Rattle.pool.specs.Opening.{bad_screen, bad_blocks, too_short, done}
 use Rattle.pool.specs.Editions.{layout_for}
-use Rattle.pool.proofs.Editions.{known}
+use Rattle.pool.proofs.Editions.{known_sized}
 use Rattle.pool.proofs.open_as.Goals as goal
 use Rattle.pool.proofs.open_as.Goals.{After-room}
 
@@ -22,17 +22,17 @@ returns-then-blocks-gt-MOST_BLOCKS c = bad_blocks (c.allowed.ensures.yes c.if-no
 
 pub returns-then-pool-room : goal.returns-then-pool-room
 returns-then-pool-room c =
-    too_short (c.allowed.ensures.yes c.if-not-allowed.false) c.if-blocks-gt-MOST_BLOCKS.false (known c.args.layout)
+    too_short (c.allowed.ensures.yes c.if-not-allowed.false) c.if-blocks-gt-MOST_BLOCKS.false c.requires
     (omega (arith, needed (goal.at.returns-then-pool-room c).After-room)) refl refl
 
 pub room-requires : goal.room-requires
-room-requires c = (omega (arith, (c.allowed.ensures.yes c.if-not-allowed.false).tiles≤), omega arith)
+room-requires c = (known_sized c.requires, omega (arith, (c.allowed.ensures.yes c.if-not-allowed.false).tiles≤), omega arith)
 
 pub write_opening-requires : goal.write_opening-requires
 write_opening-requires c =
-    (c.if-blocks-gt-MOST_BLOCKS.false, omega (arith, needed (goal.at.write_opening-requires c).After-room))
+    (c.requires, c.if-blocks-gt-MOST_BLOCKS.false, omega (arith, needed (goal.at.write_opening-requires c).After-room))
 
 pub returns : goal.returns
 returns c =
-    done (c.allowed.ensures.yes c.if-not-allowed.false) c.if-blocks-gt-MOST_BLOCKS.false (known c.args.layout)
+    done (c.allowed.ensures.yes c.if-not-allowed.false) c.if-blocks-gt-MOST_BLOCKS.false c.requires
     (omega (arith, needed (goal.at.returns c).After-room)) refl c.write_opening.ensures

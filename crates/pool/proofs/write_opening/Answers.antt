@@ -4,14 +4,18 @@ use native.Mathlib.Omega.{arith}
 use borrow.Author.Rules.{rules}
 use Rattle.pool.specs.Words.{start, room}
 use Rattle.pool.specs.Editions.{layout_for}
-use Rattle.pool.proofs.Editions.{known}
+use Rattle.pool.proofs.Editions.{known_sized}
 use Rattle.pool.proofs.Opening.{header_fits, opening_steps}
 use Rattle.pool.proofs.write_opening.Goals as goal
+
+pub start-from-requires : goal.start-from-requires
+start-from-requires c = (known_sized c.requires.0, omega arith)
 
 pub write_header-requires : goal.write_header-requires
 unfolding room start
 write_header-requires c = (
-  omega (arith, c.requires.1),
+  known_sized c.requires.0,
+  omega (arith, c.requires.2),
   c.start-from.ensures ∙ ap (start (layout_for c.args.layout)) (c.wide-count.ensures ∙ c.tiles.ensures),
 )
 
@@ -22,12 +26,12 @@ fill-requires c = search rules
 pub write_blocks-requires : goal.write_blocks-requires
 unfolding room start
 write_blocks-requires c =
-    (c.requires.0, search rules)
+    (known_sized c.requires.0, c.requires.1, search rules)
 
 pub returns : goal.returns
 returns c =
     let L = layout_for c.args.layout in
     let count = c.wide-count.ensures ∙ c.tiles.ensures in
-    opening_steps L _ _ _ (header_fits (known c.args.layout) _ _) _ _ _ _ _ c.requires.1 count
+    opening_steps L _ _ _ (header_fits c.requires.0 _ _) _ _ _ _ _ c.requires.2 count
     (c.start-from.ensures ∙ ap (start L) count) c.write_header.ensures c.fill.ensures
     c.write_blocks.ensures

@@ -9,7 +9,7 @@ use Rattle.pool.specs.Words.{Layout}
 use Rattle.pool.specs.Editions.{layout_for}
 use Rattle.pool.specs.Opening.{header_rest}
 use Rattle.pool.specs.Written.{written}
-use Rattle.pool.proofs.Editions.{ten, sized}
+use Rattle.pool.proofs.Editions.{ten}
 use Rattle.pool.proofs.write_rest.Goals as goal
 
 -- what headers of eight and of ten words have after eight
@@ -24,14 +24,14 @@ unfolding written
 returns-then-layout-eq8 c = let a = c.args in sym (ap (written a.pool.now 8) (none (layout_for a.layout) c.if-layout-eq8.true))
 
 pub bounds-pool-8 : goal.bounds-pool-8
-bounds-pool-8 c = omega (arith, ten (sized c.args.layout) c.if-layout-eq8.false)
+bounds-pool-8 c = omega (arith, ten c.requires.0 c.if-layout-eq8.false)
 
 pub bounds-pool-9 : goal.bounds-pool-9
-bounds-pool-9 c = simp length-set (omega (arith, ten (sized c.args.layout) c.if-layout-eq8.false))
+bounds-pool-9 c = simp length-set (omega (arith, ten c.requires.0 c.if-layout-eq8.false))
 
 pub returns : goal.returns
 unfolding written
 returns c =
     let p = c.args.pool.now in
     let size = c.narrow.ensures ∙ add-one c.args.layout.ids in
-    (λ i. set (set p 8 (size i)) 9 0) ∙ sym (ap (written p 8) (two (layout_for c.args.layout) (ten (sized c.args.layout) c.if-layout-eq8.false)))
+    (λ i. set (set p 8 (size i)) 9 0) ∙ sym (ap (written p 8) (two (layout_for c.args.layout) (ten c.requires.0 c.if-layout-eq8.false)))

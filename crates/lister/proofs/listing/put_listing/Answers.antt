@@ -6,7 +6,7 @@ use lib.ListN.{length, get_or, length-append}
 use native.Mathlib.Omega.{arith}
 use Rattle.pool.specs.Words.{layout_of, start, room, header_word}
 use Rattle.pool.specs.Sound.{blocks_of}
-use Rattle.audit.specs.declared.Header.{Header}
+use Rattle.audit.specs.declared.header.Header.{Header}
 use Rattle.audit.specs.Answer.{HeaderOf}
 use Rattle.lister.specs.Listing.{screen_line, listing}
 use Rattle.pool.proofs.Putting.{puts_then}

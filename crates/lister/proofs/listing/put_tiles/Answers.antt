@@ -8,7 +8,7 @@ use Rattle.pool.specs.Words.{Layout, layout_of}
 use Rattle.pool.specs.Editions.{layout_for, Sized}
 use Rattle.pool.specs.Sound.{Sound, tiles_of}
 use Rattle.pool.specs.Lists.{list_of}
-use Rattle.audit.specs.declared.Header.{Header}
+use Rattle.audit.specs.declared.header.Header.{Header}
 use Rattle.audit.specs.Answer.{HeaderOf}
 use Rattle.lister.specs.Listing.{tile_line}
 use Rattle.pool.proofs.Putting.{puts_none, puts_then, puts_long}

@@ -11,7 +11,7 @@ use Rattle.screen.proofs.Sizes.{across≥}
 use Rattle.screen.proofs.Axis.rounded_down.Goals as goal
 
 pub held_to-requires : goal.held_to-requires
-held_to-requires c = let e = c.tiles.ensures.0 in let w = across≥ c.args.self.extent c.args.self.s c.args.self.least_extent in omega arith
+held_to-requires c = let e = c.tiles.ensures.0 in let w = across≥ c.args.self.extent c.args.self.s c.requires in omega arith
 
 pub returns : goal.returns
 unfolding rounded_down

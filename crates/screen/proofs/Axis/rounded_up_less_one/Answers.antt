@@ -18,11 +18,11 @@ overflow_sub-side c = let w = side> c.args.self.s in omega arith
 pub overflow_add-positive : goal.overflow_add-positive
 overflow_add-positive c =
     let x = c.positive.ensures ∙ ap up (is_arg w32 c.ranges.x).same in
-    let w = up_le c.args.x c.requires in
+    let w = up_le c.args.x c.requires.1 in
     omega arith
 
 pub held_to-requires : goal.held_to-requires
-held_to-requires c = let e = c.tiles.ensures.0 in let w = across≥ c.args.self.extent c.args.self.s c.args.self.least_extent in omega arith
+held_to-requires c = let e = c.tiles.ensures.0 in let w = across≥ c.args.self.extent c.args.self.s c.requires.0 in omega arith
 
 pub returns : goal.returns
 unfolding rounded_up_less_one

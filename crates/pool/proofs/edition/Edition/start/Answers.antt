@@ -2,11 +2,10 @@
 use native.Mathlib.Omega.{arith}
 use borrow.Author.Rules.{rules}
 use Rattle.pool.specs.Words.{start}
-use Rattle.pool.proofs.Editions.{sized}
 use Rattle.pool.proofs.edition.Edition.start.Goals as goal
 
 pub overflow_add-result : goal.overflow_add-result
-overflow_add-result c = omega (arith, (sized c.args.self).header≤)
+overflow_add-result c = omega (arith, c.requires.0.header≤)
 
 pub returns : goal.returns
 unfolding start

@@ -155,8 +155,10 @@ pub fn bin(pool: &mut [u32], shape: Shape, id: u32) -> Result<Binned, Refusal>
     let Some(header) = audit::audit(pool) else {
         return Err(Refusal::Unsound);
     };
+    // Before the list of tiles is cleared, which a refusal needs not: so `bin` is not `bin_sound` behind an audit.
+    cause(shape, id)?;
     let mut touched = [0u32; 4096];
-    bin_sound(pool, header, shape, id, &mut touched)
+    place(pool, header, shape, id, &mut touched)
 }
 
 // Bins a shape in pixels: the tiles listed, the blocks taken and the tests made; or refuses the pool, the id, the shape by its first offence, or for want of
@@ -250,7 +252,7 @@ pub fn read_list(pool: &[u32], tile: Tile, entries: &mut [u32]) -> Result<u32, R
         return Err(Refusal::Unsound);
     };
     if header.tiles <= tile.0 {
-        return Err(Refusal::NoTile);
+        return Err(Refusal::NoTile); // a slice that is too short comes after it
     }
     let lists = lists_of(header);
     let count = lists.entries(pool, tile);
@@ -374,7 +376,11 @@ pub fn corner_cover(screen: Screen, tile: Tile, shape: Shape) -> Result<Cover, R
 pub fn unit(v: f32) -> Result<i32, Refusal>
     ensures { UnitSays v (told_unit result) }
 {
-    snap::snap(v)
+    let snapped = snap::snap(v);
+    let Ok(unit) = snapped else {
+        return Err(snapped.unwrap_err());
+    };
+    Ok(unit)
 }
 
 // The totals over a list of shapes, seven words to a shape, of their tiles by box and by touching; or refuses the screen or the list, in that order.

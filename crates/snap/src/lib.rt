@@ -1,12 +1,13 @@
 #![tactic(auto)]
 // Shapes in f32 pixels to shapes in whole units, a sixteenth of a pixel each. A coordinate's unit is the whole number nearest to
-// sixteen times it, a half going to the even one. Every f32 is answered: no public function asks anything.
+// sixteen times it, a half going to the even one. Every f32 is answered: no public function asks anything. Answers are opened by `let .. else`, and a refusal
+// is returned early: rule L4 has it so.
 ghost use Rattle.std.specs.Prelude.{◌≡◌, not, T};
 ghost use Rattle.std.specs.Float.Ieee.{is_nan};
 ghost use Rattle.std.specs.Float.Ieee.Scale.{finite as is_finite};
 ghost use Rattle.snap.specs.Scaled.{Scaled};
 ghost use Rattle.snap.specs.Unit.{accept, rounded_of, unit_of};
-ghost use Rattle.snap.specs.Shapes.{vertex_of, shape_of};
+ghost use Rattle.snap.specs.Shapes.{vertex_of, point_of, line_of, triangle_of, shape_of};
 
 use numbers::Refusal;
 use shape::{Shape, Vertex};
@@ -87,23 +88,69 @@ pub fn snap(v: f32) -> Result<i32, Refusal>
 fn snap_vertex(vertex: PixelVertex) -> Result<Vertex, Refusal>
     ensures { result ≡ vertex_of vertex }
 {
-    Ok(Vertex {
-        x: snap(vertex.x)?,
-        y: snap(vertex.y)?,
-    })
+    let first = snap(vertex.x);
+    let Ok(x) = first else {
+        return Err(first.unwrap_err());
+    };
+    let second = snap(vertex.y);
+    let Ok(y) = second else {
+        return Err(second.unwrap_err());
+    };
+    Ok(Vertex { x, y })
+}
+
+// A point in units, or the first refusal.
+fn snap_point(a: PixelVertex) -> Result<Shape, Refusal>
+    ensures { result ≡ point_of a }
+{
+    let first = snap_vertex(a);
+    let Ok(p) = first else {
+        return Err(first.unwrap_err());
+    };
+    Ok(Shape::Point(p))
+}
+
+// A line in units, or the first refusal.
+fn snap_line(a: PixelVertex, b: PixelVertex) -> Result<Shape, Refusal>
+    ensures { result ≡ line_of a b }
+{
+    let first = snap_vertex(a);
+    let Ok(p) = first else {
+        return Err(first.unwrap_err());
+    };
+    let second = snap_vertex(b);
+    let Ok(q) = second else {
+        return Err(second.unwrap_err());
+    };
+    Ok(Shape::Line(p, q))
+}
+
+// A triangle in units, or the first refusal.
+fn snap_triangle(a: PixelVertex, b: PixelVertex, c: PixelVertex) -> Result<Shape, Refusal>
+    ensures { result ≡ triangle_of a b c }
+{
+    let first = snap_vertex(a);
+    let Ok(p) = first else {
+        return Err(first.unwrap_err());
+    };
+    let second = snap_vertex(b);
+    let Ok(q) = second else {
+        return Err(second.unwrap_err());
+    };
+    let third = snap_vertex(c);
+    let Ok(r) = third else {
+        return Err(third.unwrap_err());
+    };
+    Ok(Shape::Triangle(p, q, r))
 }
 
 // A shape in units. Its vertices are taken in order, and the first refusal is returned at once.
 pub fn snap_shape(shape: PixelShape) -> Result<Shape, Refusal>
     ensures { result ≡ shape_of shape }
 {
-    Ok(match shape {
-        PixelShape::Point(a) => Shape::Point(snap_vertex(a)?),
-        PixelShape::Line(a, b) => Shape::Line(snap_vertex(a)?, snap_vertex(b)?),
-        PixelShape::Triangle(a, b, c) => Shape::Triangle(
-            snap_vertex(a)?,
-            snap_vertex(b)?,
-            snap_vertex(c)?,
-        ),
-    })
+    match shape {
+        PixelShape::Point(a) => snap_point(a),
+        PixelShape::Line(a, b) => snap_line(a, b),
+        PixelShape::Triangle(a, b, c) => snap_triangle(a, b, c),
+    }
 }

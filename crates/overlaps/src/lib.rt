@@ -2,6 +2,8 @@
 // Totals over a list of shapes: how many tiles their bounding boxes meet, how many they touch, and what is between.
 ghost use Rattle.std.specs.Prelude.{◌≡◌, ◌-◌, ◌*◌, ◌≤◌, ◌<◌, length};
 ghost use Rattle.shapes.specs.Shapes.{RightList, count_of, shape_at};
+ghost use Rattle.shape.specs.Shape.{InRange};
+ghost use Rattle.overlaps.specs.HowMany.{TilesByBox};
 ghost use Rattle.overlaps.specs.Totals.{TotalsOf};
 ghost use Rattle.overlaps.specs.Adding.{with_shape, with_other, With, Bounded};
 
@@ -36,6 +38,15 @@ fn tiles_in(spans: Spans) -> u32
     ensures { result ≡ (spans.columns.end - spans.columns.start) * (spans.rows.end - spans.rows.start) }
 {
     extent_of(spans.columns) * extent_of(spans.rows)
+}
+
+// How many tiles meet the shape's bounding box. The walk finds the box once more for itself: with this as its second caller, in whose hands the box is, its loops are
+// compiled to take up to half as long again (docs/PERFORMANCE.md).
+fn box_tiles(grid: Grid, shape: Shape) -> u32
+    requires { InRange shape }
+    ensures { TilesByBox grid.screen shape result }
+{
+    tiles_in(walk::box_spans(grid, touch::figure_of(touch::three_of(shape))))
 }
 
 // The totals with a shape in range more, which is at that place and has so many tiles by box and by touching.
@@ -81,10 +92,8 @@ fn with(totals: Totals, grid: Grid, shape: Shape, place: u32, touched: &mut [u32
     if !shape::in_range(shape) {
         return with_other(totals);
     }
-    let figure = touch::figure_of(touch::three_of(shape));
-    let spans = walk::box_spans(grid, figure);
-    let boxed = tiles_in(spans);
-    let count = walk::walk_rows(grid, figure, spans, touched);
+    let boxed = box_tiles(grid, shape);
+    let count = walk::touched_tiles(grid, shape, touched);
     with_shape(totals, place, boxed, count)
 }
 

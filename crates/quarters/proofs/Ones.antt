@@ -2,10 +2,12 @@
 use mathlib.Core.Path.{◌≡◌, refl, sym, ap, subst, ◌∙◌}
 use mathlib.Core.Logic.{◌≢◌, ◌⊎◌, inl, inr, ⊎_elim}
 use mathlib.Core.List.{List}
-use Prim.Native.Nat.{ℕ, ◌+◌, ◌-◌, ◌*◌, ◌/◌, ◌%◌, ◌^◌, ◌≤◌, ◌<◌}
+use Prim.Native.Nat.{ℕ, ◌+◌, ◌-◌, ◌*◌, ◌/◌, ◌%◌, ◌^◌, ◌≤◌, ◌<◌, max}
 use native.Mathlib.Nat.{mul-le-mul_right}
 use native.Mathlib.Omega.{arith}
+use lib.ListN.{length, get_or, set, length-set}
 use lib.Pow.{pow-add}
+use lib.Seq.{get_or-set_same, get_or-set_other}
 use Rattle.numbers.proofs.Ceil.{lt_or_ge, eq_or_ne}
 use Rattle.screen.specs.declared.Screen.{Screen}
 use Rattle.screen.specs.Screen.{Allowed, columns, rows, column_of, row_of, tile_at}
@@ -14,6 +16,27 @@ use Rattle.shape.specs.declared.Shape.{Shape}
 use Rattle.quarters.specs.declared.Square.{Square}
 use Rattle.quarters.specs.Square.{InSquare, TouchedIn, past_of, beside_of, first_quarter, TouchedInFirst, Small}
 use Rattle.quarters.specs.Map.{BytesSet, RowSet, WithOnes}
+
+-- ---- bytes, one after another
+
+pub bytes_none : {v from : ℕ} (old : List ℕ) → BytesSet v from from old old
+bytes_none old = record { size = refl; within = λ i l h. absurd (omega arith); under = λ i l. refl; over = λ i l h. refl }
+
+pub bytes_more : {v from to : ℕ} {old new : List ℕ} → from ≤ to → to < length old → BytesSet v from to old new → BytesSet v from (to + 1) old (set new to v)
+bytes_more {v} {from} {to} {old} {new} f l b =
+    record {
+      size = length-set new to v ∙ b.size;
+      within = λ i h k. ⊎_elim
+          (λ (e : i ≡ to). subst (λ (n : ℕ). get_or (set new to v) n 0 ≡ v) (sym e) (get_or-set_same new to v 0 (let s = b.size in omega arith)))
+          (λ (e : i ≢ to). get_or-set_other new to i v 0 e ∙ b.within i h (omega arith))
+          (eq_or_ne i to);
+      under = λ i h. get_or-set_other new to i v 0 (λ e. omega arith) ∙ b.under i h;
+      over = λ i h k. get_or-set_other new to i v 0 (λ e. omega arith) ∙ b.over i h (omega arith);
+    }
+
+-- and no more where the end is reached, or lies before the start
+pub bytes_end : {v from i to : ℕ} {old new : List ℕ} → to ≤ i → i ≤ max from to → BytesSet v from i old new → BytesSet v from to old new
+bytes_end l h b = record { size = b.size; within = λ k f u. b.within k f (omega arith); under = b.under; over = λ k f u. b.over k f (omega arith) }
 
 -- ---- ones, one part after another
 

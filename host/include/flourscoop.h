@@ -34,8 +34,8 @@
  * STACK, in bytes, as measured, on Arm in an emulator; of those of bin, bin_list and overlaps, 16,384 list the touched
  * tiles; that of map is for a grid of 512 columns or rows, and less for a smaller one
  *               bin     bin_list  overlaps  map    audit  read   read_list  read_all  counts
- *     x86-64    18,944  18,800    17,408    3,024  2,288  2,336  2,352      2,384     2,352
- *     Arm       18,928  18,800    17,264    2,304  2,272  2,320  2,320      2,352     2,336
+ *     x86-64    18,928  18,800    16,976    3,216  2,288  2,336  2,352      2,384     2,352
+ *     Arm       18,912  18,800    16,912    2,304  2,272  2,320  2,320      2,352     2,336
  *               high_water  release  corner  inside  box  open, open_two  unit
  *     x86-64    2,320       2,368    448     224     240  144             16
  *     Arm       2,304       2,304    320     112     224  144             32
